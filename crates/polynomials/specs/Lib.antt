@@ -1,0 +1,4 @@
+pub mod Blocks
+pub mod Degrees
+pub mod Marked
+pub mod Sums
