@@ -22,6 +22,13 @@ pub fn sum_of_products<E: Element>(a: &[E], b: &[E]) -> E
     total
 }
 
+// One step of Horner: the next coefficient.
+fn horner_step<E: Arithmetic>(key: E, value: E, x: E) -> E
+    ensures { λ r. ⌜ r ≡ E·Arithmetic .operations .sum (E·Arithmetic .operations .product value key) x ⌝ }
+{
+    value.mul(key).add(x)
+}
+
 // Horner of `first` and then the elements of `xs` from index `from` on.
 fn horner_part<E: Element, L: Elements<E>>(key: E, first: E, xs: &L, from: usize) -> E
     requires { ⌜ from ≤ length (items (now xs)) ⌝ }
@@ -29,7 +36,7 @@ fn horner_part<E: Element, L: Elements<E>>(key: E, first: E, xs: &L, from: usize
 {
     let mut value = first;
     for i in from..xs.len() {
-        value = value.mul(key).add(element(xs, i));
+        value = horner_step(key, value, element(xs, i));
     }
     value
 }

@@ -16,9 +16,8 @@ loop-i-holds g c =
 
 pub loop-i-again : need.loop-i-again
 loop-i-again g c =
-    let o = g .E·Arithmetic .operations in
-    horner-next (g .E·Element·met .laws) (c .args .key) (c .args .first) (g .L·Elements .items (c .args .xs .now)) (c .args .from) (c .loop-i .i) (c .loop-i .value) (c .element .result) (c .add-value .result)
-    (omega arith) (omega arith) (c .element .ensures) (c .loop-i .inv) (c .add-value .ensures ∙ ap (λ e. o .sum e (c .element .result)) (c .mul .ensures))
+    horner-next (g .E·Element·met .laws) (c .args .key) (c .args .first) (g .L·Elements .items (c .args .xs .now)) (c .args .from) (c .loop-i .i) (c .loop-i .value) (c .element .result) (c .horner-step-value .result)
+    (omega arith) (omega arith) (c .element .ensures) (c .loop-i .inv) (c .horner-step-value .ensures)
 
 pub returns : need.returns
 returns g c =
