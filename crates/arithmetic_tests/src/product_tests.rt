@@ -155,6 +155,7 @@ fn powers_of_three() -> [u8; 255] {
 #[test]
 fn byte_products() -> Result<(), Fail> {
     let table = powers_of_three();
+    check_eq(Byte::new(0).mul(Byte::new(0)).value, 0)?;
     for i in 0..255usize {
         check_eq(Byte::new(table[i]).mul(Byte::new(0)).value, 0)?;
         for j in 0..255usize {

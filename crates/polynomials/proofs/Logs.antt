@@ -1,16 +1,14 @@
 -- The binary logarithm, rounded down. Assumes nothing.
 use mathlib.Core.Path.{_≡_, refl, sym, ap, _∙_, subst}
 use mathlib.Core.Logic.{_⊎_, inl, inr}
-use mathlib.Core.Bool.{Bool, true, false, cond}
+use mathlib.Core.Bool.{Bool, true, false}
 use Prim.Native.Nat.{ℕ, zero, suc, _+_, _*_, _^_, _<_, _≤_}
 use native.Mathlib.Omega.{arith}
 use native.Mathlib.Numerals.{add-one}
 use lib.Dec.{leb}
 use lib.Pow.{pow-pos, pow-mono}
-use Rattle.std.specs.declared.option.Option.{Option}
-use Rattle.std.specs.declared.option.Option.the-variants.{Some, None}
-use Rattle.std.proofs.shelf.Tests.{leb-true, leb-false, le-leb, cases-lt}
-use Rattle.polynomials.specs.Sums.{log2-to, log2, levels, room, LargestPower}
+use Rattle.std.proofs.shelf.Tests.{leb-true, leb-false, cases-lt}
+use Rattle.polynomials.specs.Sums.{log2-to, log2, levels, LargestPower}
 
 below-pow : (k : ℕ) → k < 2 ^ k
 below-pow zero = omega arith
@@ -98,13 +96,9 @@ levels-enough m h = go (leb 3 m) refl
     go false e = absurd (omega (arith, leb-false 3 m e))
 
 -- 64 places are enough for a list that a machine holds
-pub room-for-all : (m : ℕ) → m < 2 ^ 64 → room 64 m ≡ true
-room-for-all m h = le-leb (levels m) 64 (go (leb 3 m) refl)
+pub levels-le : (m : ℕ) → m < 2 ^ 64 → levels m ≤ 64
+levels-le m h = go (leb 3 m) refl
   where
     go : (b : Bool) → leb 3 m ≡ b → levels m ≤ 64
     go true e = let l : log2 m < 64 = exponent-lt m (log2 m) 64 (log2-low m (omega (arith, leb-true 3 m e))) h in omega (arith, levels-by m true e)
     go false e = omega (arith, levels-by m false e)
-
--- so with 64 places there is always an answer
-pub answered : {X : Type 0} (n m : ℕ) (v : X) (r : Option X) → n ≡ 64 → m < 2 ^ 64 → r ≡ cond (room n m) (Some v) None → r ≡ Some v
-answered n m v r e h is = is ∙ ap (λ (b : Bool). cond b (Some v) None) (ap (λ (k : ℕ). room k m) e ∙ room-for-all m h)

@@ -128,6 +128,7 @@ fn brw_part<E: Arithmetic, L: Elements<E>>(
 // BRW with the powers of the key by repeated squaring. It asks for no law, so that a type that counts can be put in.
 pub fn brw_by_squares<E: Arithmetic, L: Elements<E>>(key: E, powers: &mut [E], xs: &L) -> Option<E>
     ensures value { λ r. ⌜ r ≡ cond (room (length (now (powers .entry))) (length (items (now (xs .entry))))) (Some (squared-brw (E·Arithmetic .operations) key (items (now (xs .entry))))) None ⌝ }
+    ensures enough { λ r. ⌜ (64 ≤ length (now (powers .entry)) → r ≡ Some (squared-brw (E·Arithmetic .operations) key (items (now (xs .entry))))) ⌝ }
     ensures powers { λ _. ⌜ now (powers .exit) ≡ cond (room (length (now (powers .entry))) (length (items (now (xs .entry))))) (filled (squared (E·Arithmetic .operations) key) (levels-of (length (items (now (xs .entry))))) (now (powers .entry))) (now (powers .entry)) ⌝ }
 {
     let m = xs.len();
@@ -144,6 +145,7 @@ pub fn brw_by_squares<E: Arithmetic, L: Elements<E>>(key: E, powers: &mut [E], x
 // from m = 3 on, log2 m squarings (both rounded down).
 pub fn brw<E: Element, L: Elements<E>>(key: E, powers: &mut [E], xs: &L) -> Option<E>
     ensures value { λ r. ⌜ r ≡ cond (room (length (now (powers .entry))) (length (items (now (xs .entry))))) (Some (brw-of (E·Arithmetic .operations) key (items (now (xs .entry))))) None ⌝ }
+    ensures enough { λ r. ⌜ (64 ≤ length (now (powers .entry)) → r ≡ Some (brw-of (E·Arithmetic .operations) key (items (now (xs .entry))))) ⌝ }
     ensures powers { λ _. ⌜ now (powers .exit) ≡ cond (room (length (now (powers .entry))) (length (items (now (xs .entry))))) (filled (λ k. power (E·Arithmetic .operations) key (2 ^ k)) (levels-of (length (items (now (xs .entry))))) (now (powers .entry))) (now (powers .entry)) ⌝ }
 {
     brw_by_squares(key, powers, xs)

@@ -14,6 +14,7 @@ returns g c =
     let ps = c .args .powers .now in
     record {
       value = c .brw-by-squares .ensures .value ∙ ap (λ v. cond (room (length ps) (length xs)) (Some v) None) (squares-do laws (c .args .key) xs);
+      enough = λ h. c .brw-by-squares .ensures .enough h ∙ ap Some (squares-do laws (c .args .key) xs);
       powers = c .brw-by-squares .ensures .powers
           ∙ ap (λ p. cond (room (length ps) (length xs)) (filled p (levels (length xs)) ps) ps) (squares-are-powers laws (c .args .key));
     }

@@ -12,7 +12,7 @@ use Rattle.std.proofs.shelf.Lists.{take-at}
 use Rattle.std.proofs.shelf.Tests.{le-leb, lt-leb}
 use Rattle.polynomials.specs.Sums.{Squares, levels, room, filled, squared, squared-brw}
 use Rattle.polynomials.proofs.Brw.{squares-are}
-use Rattle.polynomials.proofs.Logs.{levels-enough}
+use Rattle.polynomials.proofs.Logs.{levels-enough, levels-le}
 use Rattle.polynomials.proofs.sums.brw_by_squares.Needs as need
 
 pub returns-then-n-powers : need.returns-then-n-powers
@@ -20,9 +20,11 @@ returns-then-n-powers g c =
     let o = g .E·Arithmetic .operations in
     let xs = g .L·Elements .items (c .args .xs .now) in
     let ps = c .args .powers .now in
+    let small : length xs < 2 ^ 64 = omega (arith, c .len-m .ensures, c .len-m .ok) in
     let short : room (length ps) (length xs) ≡ false = lt-leb (levels (length xs)) (length ps) (omega (arith, c .levels-n .ensures ∙ ap levels (c .len-m .ensures))) in
     record {
       value = sym (ap (λ b. cond b (Some (squared-brw o (c .args .key) xs)) None) short);
+      enough = λ h. absurd (omega (arith, levels-le (length xs) small, c .levels-n .ensures ∙ ap levels (c .len-m .ensures)));
       powers = sym (ap (λ b. cond b (filled (squared o (c .args .key)) (levels (length xs)) ps) ps) short);
     }
 
@@ -53,8 +55,10 @@ returns g c =
     let same : n - 0 ≡ n = omega arith in
     let len : length (c .fill-squares .last .table) ≡ n = omega (arith, c .fill-squares .kept .table, length-take (n - 0) ps) in
     let all : length xs ≤ c .len-m .result - 0 = omega arith in
+    let value = ap Some (c .brw-part .ensures ∙ ap (squared-brw o (c .args .key)) (take-all _ _ all)) in
     record {
-      value = ap Some (c .brw-part .ensures ∙ ap (squared-brw o (c .args .key)) (take-all _ _ all)) ∙ sym (ap (λ b. cond b (Some (squared-brw o (c .args .key) xs)) None) enough);
+      value = value ∙ sym (ap (λ b. cond b (Some (squared-brw o (c .args .key) xs)) None) enough);
+      enough = λ h. value;
       powers = ap₂ _++_ (squares-are o (c .args .key) (c .fill-squares .last .table) _ (len ∙ is) (c .fill-squares .ensures)) (ap (λ k. drop k ps) (same ∙ is))
           ∙ sym (ap (λ b. cond b (filled (squared o (c .args .key)) (levels (length xs)) ps) ps) enough);
     }
