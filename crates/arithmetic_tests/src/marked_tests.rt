@@ -1,4 +1,4 @@
-// The marked cases on the code: `polynomials` proves the same of the definitions.
+// The marked cases on the code: `sector` proves the same of the definitions.
 use elements::degrees::DegreeArithmetic;
 use elements::element::Arithmetic;
 use elements::fields::BlockArithmetic;

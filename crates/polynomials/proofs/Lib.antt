@@ -1,6 +1,5 @@
 pub mod Bounds
 pub mod Brw
-pub mod Examples
 pub mod Parts
 pub mod Logs
 pub mod Horner

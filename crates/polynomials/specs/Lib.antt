@@ -1,4 +1,3 @@
 pub mod Blocks
 pub mod Degrees
-pub mod Marked
 pub mod Sums

@@ -1,13 +1,7 @@
 ghost use Rattle.polynomials.specs.Degrees.{BrwDegreeBound};
-ghost use Rattle.polynomials.specs.Marked.{Marked};
 ghost use Rattle.polynomials.specs.Sums.{BrwRules};
 use elements::element::Arithmetic;
 use elements::element::Element;
-
-// The marked cases hold of the definitions.
-pub fn marked_cases_hold()
-    ensures { λ _. ⌜ Marked ⌝ }
-{}
 
 // BRW follows its rules, over every element type.
 pub fn brw_rules_hold<E: Element>()

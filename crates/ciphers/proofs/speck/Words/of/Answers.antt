@@ -1,0 +1,7 @@
+use mathlib.Core.Path.{refl}
+use Rattle.ciphers.specs.Speck.{halves}
+use Rattle.ciphers.proofs.speck.Words.of.Needs as need
+
+pub returns : need.returns
+unfolding halves
+returns c = refl

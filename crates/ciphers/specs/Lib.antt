@@ -1,0 +1,6 @@
+pub mod Aes
+pub mod AesViews
+pub mod Speck
+pub mod SpeckViews
+pub mod Tables
+pub mod Vectors

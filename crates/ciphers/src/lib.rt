@@ -1,0 +1,7 @@
+pub mod aes;
+pub mod function;
+mod schedule;
+pub mod speck;
+mod state;
+pub mod tables;
+pub mod theorems;
