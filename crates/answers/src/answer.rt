@@ -1,0 +1,40 @@
+use crate::hex::HexBlocks;
+
+// A known answer: what to work out, and the result that it must have. Keys and blocks are the bytes that they lie as,
+// and a list stays where its digits lie.
+#[derive(Clone, Copy)]
+pub enum Answer<'a> {
+    Aes {
+        key: [u8; 16],
+        plain: [u8; 16],
+        enciphered: [u8; 16],
+    },
+    Speck {
+        key: [u8; 16],
+        plain: [u8; 16],
+        enciphered: [u8; 16],
+    },
+    Product {
+        a: [u8; 16],
+        b: [u8; 16],
+        result: [u8; 16],
+    },
+    Horner {
+        key: [u8; 16],
+        list: HexBlocks<'a>,
+        result: [u8; 16],
+    },
+    Brw {
+        key: [u8; 16],
+        list: HexBlocks<'a>,
+        result: [u8; 16],
+    },
+}
+
+// What a line says: nothing, if it is empty or a remark, an answer, or what nobody can read.
+#[derive(Clone, Copy)]
+pub enum Line<'a> {
+    Passed,
+    Answer(Answer<'a>),
+    NotUnderstood,
+}
