@@ -98,6 +98,13 @@ fn transform<F: BlockFunction, H: BlockHash>(
     Ok(())
 }
 
+// The number of a sector as a block.
+fn tweak_block(sector: u64) -> Block
+    ensures { λ r. ⌜ r ≡ tweak-of sector ⌝ }
+{
+    Block::new(u128::from(sector))
+}
+
 // Enciphers the text of a sector into the output. Refused: a text that is not a multiple of 16 bytes from 64 to 4,096;
 // an output that is not as long as the text; fewer working bytes than the text's less 16. The output is then as it
 // was. The working bytes are zero afterwards, refused or not.
@@ -114,15 +121,8 @@ pub fn encipher<F: BlockFunction, H: BlockHash>(
     ensures inverse { λ r. ⌜ (isOk r ≡ true → deciphered-bytes (F·BlockFunction .function (now (f .entry))) (H·BlockHash .hash (now (g .entry))) (tweak-of sector) (now (output .exit)) ≡ now (text .entry)) ⌝ }
     ensures working { λ _. ⌜ now (working .exit) ≡ replicate (length (now (working .entry))) 0 ⌝ }
 {
-    transform(
-        Direction::Encipher,
-        f,
-        g,
-        Block::new(u128::from(sector)),
-        text,
-        output,
-        working,
-    )
+    let tweak = tweak_block(sector);
+    transform(Direction::Encipher, f, g, tweak, text, output, working)
 }
 
 // Deciphers the text of a sector into the output, with the refusals of `encipher`.
@@ -139,13 +139,6 @@ pub fn decipher<F: BlockFunction, H: BlockHash>(
     ensures inverse { λ r. ⌜ (isOk r ≡ true → enciphered-bytes (F·BlockFunction .function (now (f .entry))) (H·BlockHash .hash (now (g .entry))) (tweak-of sector) (now (output .exit)) ≡ now (text .entry)) ⌝ }
     ensures working { λ _. ⌜ now (working .exit) ≡ replicate (length (now (working .entry))) 0 ⌝ }
 {
-    transform(
-        Direction::Decipher,
-        f,
-        g,
-        Block::new(u128::from(sector)),
-        text,
-        output,
-        working,
-    )
+    let tweak = tweak_block(sector);
+    transform(Direction::Decipher, f, g, tweak, text, output, working)
 }

@@ -2,7 +2,6 @@ use mathlib.Core.Path.{_≡_, ap, _∙_}
 use mathlib.Core.Bool.{cond}
 use lib.ListN.{length}
 use Rattle.std.specs.Results.{isOk}
-use Rattle.elements.specs.Values.{block}
 use Rattle.elements.specs.declared.values.Block.{Block}
 use Rattle.sector.specs.Texts.{enciphered-bytes, deciphered-bytes}
 use Rattle.sector.specs.Transform.{tweak}
@@ -18,7 +17,7 @@ returns g c =
     let text = c .args .text .now in
     let before = c .args .output .now in
     let r = c .transform .result in
-    let output = c .transform .ensures .output ∙ ap (λ (x : Block). cond (isOk r) (deciphered-bytes F G x text) before) (c .new .ensures ∙ ap block (c .from .ensures)) in
+    let output = c .transform .ensures .output ∙ ap (λ (x : Block). cond (isOk r) (deciphered-bytes F G x text) before) (c .tweak-block-tweak .ensures) in
     record {
       answer = c .transform .ensures .answer;
       output = output;
