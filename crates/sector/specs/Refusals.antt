@@ -1,17 +1,20 @@
--- When a call of the transform refuses, and with which number. Assumes nothing.
+-- The numbers of refusals, and when a call of the transform refuses. Assumes nothing.
 use mathlib.Core.Bool.{Bool, true, false, cond}
 use Prim.Native.Nat.{ℕ, _-_, _%_}
 use lib.Dec.{eqb, leb}
 use Rattle.std.specs.declared.result.Result.{Result}
 use Rattle.std.specs.declared.result.Result.the-variants.{Ok, Err}
 use Rattle.sector.specs.declared.refusal.Refusal.{Refusal}
-use Rattle.sector.specs.declared.refusal.Refusal.the-variants.{TextLength, BufferLength, WorkingLength}
+use Rattle.sector.specs.declared.refusal.Refusal.the-variants.{TextLength, BufferLength, WorkingLength, SectorNumber, SectorFailed, Figures}
 
 -- the number of each refusal
 abbrev pub refusal-number : Refusal → ℕ
 refusal-number TextLength = 1
 refusal-number BufferLength = 2
 refusal-number WorkingLength = 3
+refusal-number SectorNumber = 4
+refusal-number SectorFailed = 5
+refusal-number Figures = 6
 
 abbrev pub both : Bool → Bool → Bool
 both true b = b

@@ -11,6 +11,9 @@ impl Refusal {
             Refusal::TextLength => 1,
             Refusal::BufferLength => 2,
             Refusal::WorkingLength => 3,
+            Refusal::SectorNumber => 4,
+            Refusal::SectorFailed => 5,
+            Refusal::Figures => 6,
         }
     }
 }

@@ -7,4 +7,10 @@ pub enum Refusal {
     BufferLength,
     // too few working bytes
     WorkingLength,
+    // a sector that is not below the store's count
+    SectorNumber,
+    // a sector that has failed
+    SectorFailed,
+    // figures of a medium or a window that break a rule
+    Figures,
 }

@@ -1,0 +1,5 @@
+pub mod Calls
+pub mod Steps
+pub mod Law
+pub mod Consequences
+pub mod Laid

@@ -1,0 +1,4 @@
+pub mod call;
+pub mod run;
+pub mod stack;
+pub mod theorems;

@@ -1,0 +1,5 @@
+pub mod Stores
+pub mod Layers
+pub mod Media
+pub mod Spared
+pub mod Limits

@@ -1,0 +1,12 @@
+pub mod fault;
+mod figures;
+pub mod flat;
+pub mod layer;
+mod lookup;
+pub mod numbers;
+mod places;
+pub mod spared;
+pub mod state;
+pub mod store;
+mod table;
+pub mod window;
