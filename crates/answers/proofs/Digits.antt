@@ -7,17 +7,17 @@ use native.Mathlib.Omega.{arith}
 use lib.Dec.{leb, eqb, ltb, lit<}
 use lib.ListN.{length, take, drop, getD}
 use lib.Pow.{pow-mono}
-use native.Mathlib.Nat.{pow-le-pow-right}
+use native.Mathlib.Nat.{pow-le-pow-right, mul-le-mul, mul-le-mul-left}
 use Rattle.std.proofs.shelf.Digits.{number-lt, number-push}
 use Rattle.std.proofs.shelf.Lists.{length-map, take-more, map-push, drop-drop, length-take-le}
 use Rattle.std.proofs.shelf.Ways.{tells}
 use Rattle.std.specs.Options.{isSome, valueOr}
 use Rattle.std.specs.declared.option.Option.{Option}
 use Rattle.std.specs.declared.option.Option.the-variants.{Some, None}
-use Rattle.std.specs.shelf.Digits.{number, Under}
+use Rattle.std.specs.shelf.Digits.{number, numberAfter, Under}
 use Rattle.elements.specs.Values.{block}
 use Rattle.elements.specs.declared.values.Block.{Block}
-use Rattle.answers.specs.Hex.{between, digit, digit-value, all-digits, hex-block, hex-blocks}
+use Rattle.answers.specs.Hex.{between, digit, digit-value, all-digits, digits-number, hex-block, hex-blocks}
 
 pub digit-lt : (c : ℕ) → digit-value c < 16
 unfolding digit
@@ -28,18 +28,33 @@ values-under [] = tt
 values-under (c ∷ t) = (digit-lt c, values-under t)
 
 -- one digit more
-pub number-digit : (t : List ℕ) (i : ℕ) → i < length t → number 16 (map digit-value (take (i + 1) t)) ≡ number 16 (map digit-value (take i t)) * 16 + digit-value (getD t i 0)
-number-digit t i h =
-    ap (λ l. number 16 (map digit-value l)) (take-more t i 0 h)
-    ∙ ap (number 16) (map-push digit-value (take i t) (getD t i 0))
-    ∙ number-push 16 (map digit-value (take i t)) (digit-value (getD t i 0))
+pub number-digit : (b : ℕ) (t : List ℕ) (i : ℕ) → i < length t → digits-number b (take (i + 1) t) ≡ digits-number b (take i t) * b + digit-value (getD t i 0)
+number-digit b t i h =
+    ap (digits-number b) (take-more t i 0 h)
+    ∙ ap (number b) (map-push digit-value (take i t) (getD t i 0))
+    ∙ number-push b (map digit-value (take i t)) (digit-value (getD t i 0))
 
--- fewer than 32 digits leave room for one more
-pub number-room : (t : List ℕ) (i : ℕ) → i < length t → length t ≤ 32 → number 16 (map digit-value (take i t)) < 2 ^ 124
-number-room t i h l =
-    let m : length (map digit-value (take i t)) ≡ i = length-map (take i t) digit-value ∙ length-take-le i t (omega arith) in
-    let p : 16 ^ length (map digit-value (take i t)) ≤ 16 ^ 31 = pow-le-pow-right {n = 16} (omega arith) {i = length (map digit-value (take i t))} {j = 31} (omega arith) in
-    omega (arith, number-lt 16 (map digit-value (take i t)) (values-under (take i t)))
+-- a smaller base makes no larger number
+base-le : (b a m : ℕ) (ds : List ℕ) → b ≤ 16 → a ≤ m → numberAfter b a ds ≤ numberAfter 16 m ds
+base-le b a m [] h l = l
+base-le b a m (d ∷ ds) h l =
+    let p : a * b ≤ m * 16 = mul-le-mul l h in
+    base-le b (a * b + d) (m * 16 + d) ds h (omega arith)
+
+number-short : (b : ℕ) (t : List ℕ) (i : ℕ) → b ≤ 16 → i < length t → length t ≤ 32 → digits-number b (take i t) < 2 ^ 124
+number-short b t i s h l =
+    let ds : List ℕ = map digit-value (take i t) in
+    let m : length ds ≡ i = length-map (take i t) digit-value ∙ length-take-le i t (omega arith) in
+    let p : 16 ^ length ds ≤ 16 ^ 31 = pow-le-pow-right {n = 16} (omega arith) {i = length ds} {j = 31} (omega arith) in
+    omega (arith, number-lt 16 ds (values-under (take i t)), base-le b 0 0 ds s (omega arith))
+
+-- fewer than 32 digits, of the number x in the base r, leave room for one more
+pub number-room : (b : ℕ) (t : List ℕ) (i x r : ℕ) → b ≤ 16 → i < length t → length t ≤ 32 → x ≡ digits-number b (take i t) → r ≡ b → x * r + 15 < 2 ^ 128
+number-room b t i x r s h l e f =
+    let lt : x < 2 ^ 124 = omega (arith, number-short b t i s h l) in
+    let le : r ≤ 16 = omega arith in
+    let p : x * r ≤ x * 16 = mul-le-mul-left x le in
+    omega arith
 
 pub blocks-length : (n : ℕ) (t : List ℕ) → length (hex-blocks n t) ≡ n
 blocks-length zero t = refl

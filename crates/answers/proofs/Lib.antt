@@ -1,3 +1,5 @@
+pub mod Bytes
+pub mod Decimals
 pub mod Digits
 pub mod Hexes
 pub mod Keys

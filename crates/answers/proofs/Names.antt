@@ -14,7 +14,7 @@ use Rattle.std.specs.declared.option.Option.the-variants.{Some, None}
 use Rattle.std.specs.shelf.Text.{sameBytes}
 use Rattle.answers.specs.Kinds.{kind-word, first-named, kind-named}
 use Rattle.answers.specs.declared.kinds.Kind.{Kind}
-use Rattle.answers.specs.declared.kinds.Kind.the-variants.{Aes, Speck, Product, Horner, Brw}
+use Rattle.answers.specs.declared.kinds.Kind.the-variants.{Aes, Speck, Product, Horner, Brw, Sector}
 
 -- the kind that is found has the word
 pub found-word : (ks : List Kind) (w : List ℕ) (k : Kind) → first-named ks w ≡ Some k → w ≡ kind-word k
@@ -34,10 +34,11 @@ named-word Speck = refl
 named-word Product = refl
 named-word Horner = refl
 named-word Brw = refl
+named-word Sector = refl
 
 pub named-is : (w : List ℕ) (k : Kind) → kind-named w ≡ Some k → w ≡ kind-word k
 unfolding kind-named
-named-is w k e = found-word (Aes ∷ (Speck ∷ (Product ∷ (Horner ∷ (Brw ∷ []))))) w k e
+named-is w k e = found-word (Aes ∷ (Speck ∷ (Product ∷ (Horner ∷ (Brw ∷ (Sector ∷ [])))))) w k e
 
 pub names : (w : List ℕ) (r : Option Kind) → r ≡ kind-named w → (k : Kind) → (r ≡ Some k → w ≡ kind-word k) × (w ≡ kind-word k → r ≡ Some k)
 names w r v k = ((λ e. named-is w k (sym v ∙ e)), (λ e. v ∙ ap kind-named e ∙ named-word k))

@@ -15,7 +15,7 @@ use Rattle.answers.specs.Reading.{three}
 use Rattle.answers.specs.Rendering.{small-digit, small, Unspaced, AllUnspaced}
 use Rattle.answers.specs.Words.{before-first, words, spaced}
 use Rattle.answers.specs.declared.kinds.Kind.{Kind}
-use Rattle.answers.specs.declared.kinds.Kind.the-variants.{Aes, Speck, Product, Horner, Brw}
+use Rattle.answers.specs.declared.kinds.Kind.the-variants.{Aes, Speck, Product, Horner, Brw, Sector}
 use Rattle.answers.proofs.Hexes.{digit-no-space, small-space}
 
 -- a text put before the first word
@@ -131,6 +131,7 @@ unspaced-kind Speck = unspaced-from (kind-word Speck) refl
 unspaced-kind Product = unspaced-from (kind-word Product) refl
 unspaced-kind Horner = unspaced-from (kind-word Horner) refl
 unspaced-kind Brw = unspaced-from (kind-word Brw) refl
+unspaced-kind Sector = unspaced-from (kind-word Sector) refl
 
 pub unspaced-dash : Unspaced (codes "-")
 unspaced-dash = unspaced-from (codes "-") refl

@@ -34,9 +34,13 @@ abbrev pub all-digits : List ℕ → Bool
 all-digits [] = true
 all-digits (c ∷ cs) = isSome (digit c) && all-digits cs
 
--- the block that digits write, the highest first
+-- the number that digits write in a base, the highest first
+abbrev pub digits-number : ℕ → List ℕ → ℕ
+digits-number base t = number base (map digit-value t)
+
+-- the block that digits write
 unfoldable pub hex-block : List ℕ → Block
-hex-block t = block (number 16 (map digit-value t))
+hex-block t = block (digits-number 16 t)
 
 -- the first n blocks of a text of digits, 32 to a block
 abbrev pub hex-blocks : ℕ → List ℕ → List Block

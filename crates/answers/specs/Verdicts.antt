@@ -6,18 +6,18 @@ use lib.Chars.{codes}
 use Rattle.std.specs.Written.{decimal}
 use Rattle.std.specs.declared.option.Option.{Option}
 use Rattle.std.specs.declared.option.Option.the-variants.{Some, None}
-use Rattle.answers.specs.Agreement.{value-of, result-of}
+use Rattle.answers.specs.Agreement.{Holds}
 use Rattle.answers.specs.Kinds.{kind-word}
 use Rattle.answers.specs.Reading.{Known, Reading, passed, understood, not-understood, kind-of}
 use Rattle.answers.specs.declared.verdict.Tally.{Tally}
 use Rattle.answers.specs.declared.verdict.Verdict.{Verdict}
 use Rattle.answers.specs.declared.verdict.Verdict.the-variants.{Agrees, Differs, NotUnderstood}
 
--- the verdict on what a line says: whether the definitions give the result that its answer names
+-- the verdict on what a line says: whether the definitions give what its answer says
 abbrev pub Judged : Reading → Option Verdict → Type 0
 Judged passed v = v ≡ None
 Judged (understood k) v =
-    (value-of k ≡ result-of k → v ≡ Some (Agrees (kind-of k))) × ((value-of k ≡ result-of k → ⊥) → v ≡ Some (Differs (kind-of k)))
+    (Holds k → v ≡ Some (Agrees (kind-of k))) × ((Holds k → ⊥) → v ≡ Some (Differs (kind-of k)))
 Judged not-understood v = v ≡ Some NotUnderstood
 
 -- one more, stopping at the largest number

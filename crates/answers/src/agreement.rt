@@ -3,14 +3,18 @@ ghost use Rattle.std.specs.Orderings.{Decides};
 ghost use Rattle.polynomials.specs.Sums.{brw as brw-of};
 ghost use Rattle.elements.specs.Values.{block-operations};
 ghost use Rattle.ciphers.specs.Aes.{aes-128};
+ghost use Rattle.ciphers.specs.Choice.{cipher-of, keyed-of};
 ghost use Rattle.ciphers.specs.Speck.{speck};
-ghost use Rattle.answers.specs.Agreement.{key-bytes, value-of, result-of};
+ghost use Rattle.answers.specs.Agreement.{key-bytes, Holds};
 ghost use Rattle.answers.specs.Views.{known-of, block-in, blocks-in};
 use crate::answer::Answer;
 use crate::hex::HexBlocks;
 use crate::hex::HexBlocksElements;
+use crate::sectors::Setting;
 use ciphers::aes::Aes128;
 use ciphers::aes::Aes128Function;
+use ciphers::choice::AnyCipher;
+use ciphers::choice::Cipher;
 use ciphers::function::BlockFunction;
 use ciphers::speck::Speck128;
 use ciphers::speck::Speck128Function;
@@ -43,35 +47,55 @@ fn speck_of(key: &[u8; 16], plain: Block) -> Block
     Speck128::new(*key).call(plain)
 }
 
-// What the product works out for an answer.
-fn worked_out(answer: &Answer) -> Block
-    ensures { λ r. ⌜ r ≡ value-of (known-of (now (answer .entry))) ⌝ }
+// A cipher under a key.
+fn keyed(cipher: Cipher, key: &[u8; 16]) -> AnyCipher
+    ensures { λ r. ⌜ keyed-of r ≡ cipher-of cipher (key-bytes (block-in (now (key .entry)))) ⌝ }
 {
-    match *answer {
-        Answer::Aes { key, plain, .. } => aes_of(&key, Block::from_bytes(plain)),
-        Answer::Speck { key, plain, .. } => speck_of(&key, Block::from_bytes(plain)),
-        Answer::Product { a, b, .. } => Block::from_bytes(a).mul(Block::from_bytes(b)),
-        Answer::Horner { key, list, .. } => horner(Block::from_bytes(key), &list),
-        Answer::Brw { key, list, .. } => brw_at(Block::from_bytes(key), &list),
-    }
+    cipher.keyed(*key)
 }
 
-// The result that an answer names.
-fn named_result(answer: &Answer) -> Block
-    ensures { λ r. ⌜ r ≡ result-of (known-of (now (answer .entry))) ⌝ }
+// Whether a block lies as these bytes.
+fn lies_as(x: Block, bytes: [u8; 16]) -> bool
+    ensures { λ r. ⌜ Decides r (x ≡ block-in bytes) ⌝ }
 {
-    match *answer {
-        Answer::Aes { enciphered, .. } => Block::from_bytes(enciphered),
-        Answer::Speck { enciphered, .. } => Block::from_bytes(enciphered),
-        Answer::Product { result, .. } => Block::from_bytes(result),
-        Answer::Horner { result, .. } => Block::from_bytes(result),
-        Answer::Brw { result, .. } => Block::from_bytes(result),
-    }
+    x.value == Block::from_bytes(bytes).value
 }
 
-// Whether the product works out the result that an answer names.
+// Whether the product works out what an answer says.
 pub fn agrees(answer: &Answer) -> bool
-    ensures { λ r. ⌜ Decides r (value-of (known-of (now (answer .entry))) ≡ result-of (known-of (now (answer .entry)))) ⌝ }
+    ensures { λ r. ⌜ Decides r (Holds (known-of (now (answer .entry)))) ⌝ }
 {
-    worked_out(answer).value == named_result(answer).value
+    match *answer {
+        Answer::Aes {
+            key,
+            plain,
+            enciphered,
+        } => lies_as(aes_of(&key, Block::from_bytes(plain)), enciphered),
+        Answer::Speck {
+            key,
+            plain,
+            enciphered,
+        } => lies_as(speck_of(&key, Block::from_bytes(plain)), enciphered),
+        Answer::Product { a, b, result } => lies_as(
+            Block::from_bytes(a).mul(Block::from_bytes(b)),
+            result,
+        ),
+        Answer::Horner { key, list, result } => lies_as(
+            horner(Block::from_bytes(key), &list),
+            result,
+        ),
+        Answer::Brw { key, list, result } => lies_as(brw_at(Block::from_bytes(key), &list), result),
+        Answer::Sector {
+            cipher,
+            hash,
+            key,
+            number,
+            plain,
+            enciphered,
+        } => Setting {
+            cipher: keyed(cipher, &key),
+            hash,
+            number,
+        }.agrees(&plain, &enciphered),
+    }
 }

@@ -1,7 +1,9 @@
 use crate::hex::HexBlocks;
+use ciphers::choice::Cipher;
+use hashing::choice::AnyHash;
 
 // A known answer: what to work out, and the result that it must have. Keys and blocks are the bytes that they lie as,
-// and a list stays where its digits lie.
+// and a list, as a sector's text is, stays where its digits lie.
 #[derive(Clone, Copy)]
 pub enum Answer<'a> {
     Aes {
@@ -28,6 +30,14 @@ pub enum Answer<'a> {
         key: [u8; 16],
         list: HexBlocks<'a>,
         result: [u8; 16],
+    },
+    Sector {
+        cipher: Cipher,
+        hash: AnyHash,
+        key: [u8; 16],
+        number: u64,
+        plain: HexBlocks<'a>,
+        enciphered: HexBlocks<'a>,
     },
 }
 

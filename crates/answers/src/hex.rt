@@ -1,9 +1,10 @@
 ghost use mathlib.Core.Path.{_≡_};
-ghost use Prim.Native.Nat.{_≤_};
+ghost use Prim.Native.Nat.{_*_, _≤_};
 ghost use lib.ListN.{length};
 ghost use denote.Ref.{now};
 ghost use Rattle.std.specs.Options.{mapped};
-ghost use Rattle.answers.specs.Hex.{digit as digit-of, all-digits, hex-block as block-of-digits, hex-blocks-of, one-block, some-blocks, block-word, list-word};
+ghost use Rattle.sector.specs.Texts.{joined};
+ghost use Rattle.answers.specs.Hex.{digit as digit-of, all-digits, digits-number, hex-block as block-of-digits, hex-blocks-of, one-block, some-blocks, block-word, list-word};
 ghost use Rattle.answers.specs.Views.{block-in, blocks-in};
 use crate::words::same;
 use elements::values::Block;
@@ -32,16 +33,25 @@ fn is_hex(text: &[u8]) -> bool
     true
 }
 
-// The block that so many digits write. What is no digit counts as 0.
+// The number that digits write in a base, the highest first. What is no digit counts as 0.
+pub(crate) fn number_of(base: u8, digits: &[u8]) -> u128
+    requires few { ⌜ length (now digits) ≤ 32 ⌝ }
+    requires small { ⌜ base ≤ 16 ⌝ }
+    ensures { λ r. ⌜ r ≡ digits-number base (now (digits .entry)) ⌝ }
+{
+    let mut value = 0u128;
+    for c in digits {
+        value = value * u128::from(base) + u128::from(digit(*c).unwrap_or(0));
+    }
+    value
+}
+
+// The block that so many digits write.
 fn hex_block(digits: &[u8]) -> Block
     requires { ⌜ length (now digits) ≤ 32 ⌝ }
     ensures { λ r. ⌜ r ≡ block-of-digits (now (digits .entry)) ⌝ }
 {
-    let mut value = 0u128;
-    for c in digits {
-        value = value * 16 + u128::from(digit(*c).unwrap_or(0));
-    }
-    Block::new(value)
+    Block::new(number_of(16, digits))
 }
 
 // A list of blocks that lies as hex digits, 32 to a block, and is read where it lies. What is left over at the end is
@@ -103,5 +113,16 @@ pub(crate) fn read_list(word: &[u8]) -> Option<HexBlocks<'_>>
         Some(HexBlocks { digits: word })
     } else {
         None
+    }
+}
+
+// Writes a list as the bytes of its blocks.
+pub(crate) fn write_bytes(list: &HexBlocks, output: &mut [u8])
+    requires { ⌜ length (now output) ≡ 16 * length (blocks-in (now list)) ⌝ }
+    ensures { λ _. ⌜ now (output .exit) ≡ joined (blocks-in (now (list .entry))) ⌝ }
+{
+    for i in 0..list.digits.len() / 32 {
+        let x = hex_block(&list.digits[32 * i..32 * i + 32]);
+        output[16 * i..16 * i + 16].copy_from_slice(&x.to_bytes());
     }
 }

@@ -1,10 +1,13 @@
 ghost use mathlib.Core.Path.{_≡_};
 ghost use Rattle.std.specs.declared.option.Option.the-variants.{Some};
 ghost use Rattle.std.specs.shelf.Text.{sameBytes};
-ghost use Rattle.answers.specs.Kinds.{kind-word, first-named, kind-named};
+ghost use Rattle.answers.specs.Kinds.{kind-word, first-named, kind-named, cipher-by, hash-by};
 use crate::words::same;
+use ciphers::choice::Cipher;
+use hashing::choice::AnyHash;
 
-// What an answer is about: the word that its line begins with.
+// What an answer is about. Its line begins with the word for it, but for a sector's, which begins with the word for its
+// cipher.
 #[derive(Clone, Copy)]
 pub enum Kind {
     Aes,
@@ -12,15 +15,17 @@ pub enum Kind {
     Product,
     Horner,
     Brw,
+    Sector,
 }
 
 // Every kind.
-const KINDS: [Kind; 5] = [
+const KINDS: [Kind; 6] = [
     Kind::Aes,
     Kind::Speck,
     Kind::Product,
     Kind::Horner,
     Kind::Brw,
+    Kind::Sector,
 ];
 
 impl Kind {
@@ -34,6 +39,7 @@ impl Kind {
             Kind::Product => "product",
             Kind::Horner => "horner",
             Kind::Brw => "brw",
+            Kind::Sector => "sector",
         }
     }
 
@@ -62,4 +68,26 @@ fn first_named(kinds: &[Kind], word: &[u8]) -> Option<Kind>
         }
     }
     None
+}
+
+// The cipher that a word names.
+pub(crate) fn read_cipher(word: &[u8]) -> Option<Cipher>
+    ensures { λ r. ⌜ r ≡ cipher-by (kind-named (now (word .entry))) ⌝ }
+{
+    match Kind::named(word)? {
+        Kind::Aes => Some(Cipher::Aes),
+        Kind::Speck => Some(Cipher::Speck),
+        _ => None,
+    }
+}
+
+// The hash that a word names.
+pub(crate) fn read_hash(word: &[u8]) -> Option<AnyHash>
+    ensures { λ r. ⌜ r ≡ hash-by (kind-named (now (word .entry))) ⌝ }
+{
+    match Kind::named(word)? {
+        Kind::Horner => Some(AnyHash::Horner),
+        Kind::Brw => Some(AnyHash::Brw),
+        _ => None,
+    }
 }

@@ -30,6 +30,7 @@ impl Answer<'_> {
             Answer::Product { .. } => Kind::Product,
             Answer::Horner { .. } => Kind::Horner,
             Answer::Brw { .. } => Kind::Brw,
+            Answer::Sector { .. } => Kind::Sector,
         }
     }
 }

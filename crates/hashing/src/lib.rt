@@ -13,6 +13,8 @@ use polynomials::sums::horner_from;
 use polynomials::views::Blocks;
 use polynomials::views::BlocksElements;
 
+pub mod choice;
+
 // One function of a key and a list of blocks. Its call answers the function's value; code that is generic over
 // hashes knows nothing else of it.
 pub trait BlockHash {

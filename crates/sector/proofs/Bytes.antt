@@ -41,7 +41,7 @@ bytes-block bs n u =
 
 -- ---- blocks and their bytes
 
-length-joined : (M : List Block) → length (joined M) ≡ 16 * length M
+pub length-joined : (M : List Block) → length (joined M) ≡ 16 * length M
 length-joined [] = refl
 length-joined (b ∷ M) = length-append (bytes b) (joined M) ∙ omega (arith, length-bytes b, length-joined M)
 

@@ -24,7 +24,7 @@ put-is out x at b e =
     let a : at + 16 - at ≡ 16 = omega arith in
     rw (e, a, drop-drop 16 at out)
 
-front : (out : List ℕ) (at : ℕ) (b : Block) → at + 16 ≤ length out → take (at + 16) (take at out ++ (bytes b ++ drop (at + 16) out)) ≡ take at out ++ bytes b
+pub front : (out : List ℕ) (at : ℕ) (b : Block) → at + 16 ≤ length out → take (at + 16) (take at out ++ (bytes b ++ drop (at + 16) out)) ≡ take at out ++ bytes b
 front out at b h =
     let l : at ≤ length out = omega arith in
     let n : length (take at out ++ bytes b) ≡ at + 16 = length-append (take at out) (bytes b) ∙ omega (arith, length-take-le at out l, length-bytes b) in
