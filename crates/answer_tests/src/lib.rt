@@ -1,3 +1,5 @@
+mod sectors;
+
 // What lines are understood, and what is said of them.
 #[cfg(test)]
 mod tests {

@@ -16,7 +16,7 @@ use Rattle.std.specs.Options.{isSome}
 use Rattle.std.specs.declared.option.Option.{Option}
 use Rattle.std.specs.declared.option.Option.the-variants.{Some, None}
 use Rattle.stores.specs.Stores.{Store, put}
-use Rattle.stores.specs.Media.{place, fitting}
+use Rattle.stores.specs.Media.{place}
 use Rattle.stores.specs.Spared.{later, position, spare-place, lies, own-or, lost, spared-store, listed, Failures}
 use Rattle.stores.proofs.Lying.{place-end, part-same, part-other, put-length}
 use Rattle.stores.proofs.Options.{none-some, some-same}
@@ -173,10 +173,14 @@ module _ (all xs : List ℕ) (n size spares : ℕ) (bad : List ℕ) (m p : ℕ) 
       (cases-eq k m)
 
   -- a place written is the sector written
+  -- as long as they were
+  pub put-long : length (putMid (p * size) size all xs) ≡ length all
+  put-long = put-length all xs (p * size) size fits sized
+
   pub spared-put : spared-store (putMid (p * size) size all xs) n size spares bad ≡ put (spared-store all n size spares bad) m xs
   unfolding put after
   spared-put = λ i. record {
-    count = fitting (put-length all xs (p * size) size fits sized i) (n + spares) size n;
+    count = n;
     size = size;
     layer = 0;
     bytes = λ k. sector-at k i;

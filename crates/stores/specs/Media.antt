@@ -15,14 +15,9 @@ use Rattle.stores.specs.Stores.{Store}
 abbrev pub place : List ℕ → ℕ → ℕ → List ℕ
 place all size p = take size (drop (p * size) all)
 
--- the count n where so many places of this size lie within the bytes, and else 0: no medium is made that has fewer bytes
--- than its places
-abbrev pub fitting : ℕ → ℕ → ℕ → ℕ → ℕ
-fitting all places size n = cond (leb (places * size) all) n 0
-
--- a flat medium: a sector lies in the place of its number, and none has failed
+-- sectors one after the other: a sector lies in the place of its number, and none has failed
 abbrev pub flat-store : List ℕ → ℕ → ℕ → Store
-flat-store all n size = record { count = fitting (length all) n size n; size = size; layer = 0; bytes = place all size; failed = λ k. None }
+flat-store all n size = record { count = n; size = size; layer = 0; bytes = place all size; failed = λ k. None }
 
 -- figures within the limits: up to 65,536 sectors of a multiple of 16 bytes from 64 to 4,096
 abbrev pub within-limits : ℕ → ℕ → Bool
@@ -36,6 +31,6 @@ flat-figures all n size = within-limits n size && eqb (n * size) all
 abbrev pub checked : Bool → Result (Unit {0}) Refusal
 checked ok = cond ok (Ok tt) (Err Figures)
 
--- a flat medium as it is made; with figures that break a rule it is empty, with the length 64
-abbrev pub made-flat : List ℕ → ℕ → ℕ → Store
-made-flat all n size = cond (flat-figures (length all) n size) (flat-store all n size) (flat-store all 0 64)
+-- a flat medium; with figures that break a rule it is empty, with the length 64
+abbrev pub flat-medium : List ℕ → ℕ → ℕ → Store
+flat-medium all n size = cond (flat-figures (length all) n size) (flat-store all n size) (flat-store all 0 64)

@@ -9,7 +9,7 @@ use Rattle.std.specs.Options.{isSome}
 use Rattle.std.specs.declared.option.Option.{Option}
 use Rattle.std.specs.declared.option.Option.the-variants.{Some, None}
 use Rattle.stores.specs.Stores.{Store, Place}
-use Rattle.stores.specs.Media.{place, fitting, within-limits}
+use Rattle.stores.specs.Media.{place, within-limits}
 
 -- a position, counted from one entry further ahead
 abbrev pub later : Option ℕ → Option ℕ
@@ -42,10 +42,10 @@ abbrev pub lost : ℕ → Option ℕ → Option Place
 lost k None = Some (record { sector = k; layer = 0 })
 lost k (Some p) = None
 
--- a medium of n sectors with spares, by the list of bad sectors
+-- n sectors with spares, by the list of bad sectors
 abbrev pub spared-store : List ℕ → ℕ → ℕ → ℕ → List ℕ → Store
 spared-store all n size spares bad = record {
-  count = fitting (length all) (n + spares) size n;
+  count = n;
   size = size;
   layer = 0;
   bytes = λ k. cond (ltb k n) (place all size (own-or k (lies (n + spares) k (spare-place n (position bad k))))) [];
@@ -62,9 +62,9 @@ abbrev pub spared-figures : ℕ → ℕ → ℕ → ℕ → List ℕ → Bool
 spared-figures all n size spares bad =
     within-limits n size && (leb spares 16 && (leb (length bad) 16 && (eqb ((n + spares) * size) all && listed n bad)))
 
--- a spared medium as it is made; with figures that break a rule it is empty, with the length 64
-abbrev pub made-spared : List ℕ → ℕ → ℕ → ℕ → List ℕ → Store
-made-spared all n size spares bad = cond (spared-figures (length all) n size spares bad) (spared-store all n size spares bad) (spared-store all 0 64 0 [])
+-- a spared medium; with figures that break a rule it is empty, with the length 64
+abbrev pub spared-medium : List ℕ → ℕ → ℕ → ℕ → List ℕ → Store
+spared-medium all n size spares bad = cond (spared-figures (length all) n size spares bad) (spared-store all n size spares bad) (spared-store all 0 64 0 [])
 
 -- fs are the failed sectors of a store, each exactly once, in any order
 pub record Failures (s : Store) (fs : List ℕ) : Type 0 where

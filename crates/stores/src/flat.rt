@@ -1,21 +1,23 @@
 ghost use mathlib.Core.Path.{_≡_};
 ghost use denote.Ref.{now as held};
+ghost use lib.ListN.{length as size-of};
 ghost use Rattle.stores.specs.Layers.{alone};
 ghost use Rattle.stores.specs.Limits.{flat-sound};
-ghost use Rattle.stores.specs.Media.{checked, flat-figures, flat-store, made-flat};
+ghost use Rattle.stores.specs.Media.{checked, flat-figures, flat-medium};
 use crate::fault::Fault;
-use crate::figures::Figures;
 use crate::places::get_place;
 use crate::places::put_place;
 use crate::state::SectorState;
 use crate::store::SectorStore;
 use sector::refusal::Refusal;
 
-// Sectors one after the other in memory that the maker lends.
+// Sectors one after the other in memory that the maker lends. A medium whose figures break a rule is empty, with the
+// length 64; no field says that they keep the rules, since beside a `&mut` the check takes no such field.
 #[derive(Drop)]
 pub struct FlatMedium<'a> {
     bytes: &'a mut [u8],
-    figures: Figures,
+    count: u64,
+    length: usize,
 }
 
 impl<'a> FlatMedium<'a> {
@@ -32,51 +34,48 @@ impl<'a> FlatMedium<'a> {
         Ok(())
     }
 
-    // A medium over the bytes. With figures that break a rule it is empty, with the length 64. No byte changes.
+    // A medium over the bytes. With figures that the check refuses it is empty, with the length 64. No byte changes.
     pub fn new(bytes: &'a mut [u8], count: u64, length: usize) -> FlatMedium<'a>
-        ensures store { λ r. ⌜ flat-store (held (r .bytes)) (r .figures .count) (r .figures .length) ≡ made-flat (held (bytes .entry)) count length ⌝ }
+        ensures store { λ r. ⌜ flat-medium (held (r .bytes)) (r .count) (r .length) ≡ flat-medium (held (bytes .entry)) count length ⌝ }
         ensures bytes { λ r. ⌜ held (r .bytes) ≡ held (bytes .entry) ⌝ }
     {
-        if FlatMedium::check(bytes.len(), count, length).is_ok() {
-            FlatMedium {
-                bytes,
-                figures: Figures { count, length },
-            }
-        } else {
-            FlatMedium {
-                bytes,
-                figures: Figures {
-                    count: 0,
-                    length: 64,
-                },
-            }
+        FlatMedium {
+            bytes,
+            count,
+            length,
         }
+    }
+
+    fn sound(&self) -> bool
+        ensures { λ r. ⌜ r ≡ flat-figures (size-of (held (now (self .entry) .bytes))) (now (self .entry) .count) (now (self .entry) .length) ⌝ }
+    {
+        FlatMedium::check(self.bytes.len(), self.count, self.length).is_ok()
     }
 
     // Gives the bytes back as they are.
     pub fn into_bytes(self) -> &'a mut [u8]
         ensures { λ r. ⌜ held r ≡ held (self .entry .bytes) ⌝ }
     {
-        let FlatMedium { bytes, figures: _ } = self;
+        let FlatMedium {
+            bytes,
+            count: _,
+            length: _,
+        } = self;
         bytes
     }
 }
 
 pub impl SectorStore for FlatMedium<'_> as FlatStore {
-    ghost view = { λ s. alone (flat-store (held (s .bytes)) (s .figures .count) (s .figures .length)) };
+    ghost view = { λ s. alone (flat-medium (held (s .bytes)) (s .count) (s .length)) };
 
-    ghost sound = { λ s. flat-sound (held (s .bytes)) (s .figures .count) (s .figures .length) (s .figures .few) (s .figures .long) (s .figures .short) (s .figures .even) };
+    ghost sound = { λ s. flat-sound (held (s .bytes)) (s .count) (s .length) };
 
     fn count(&self) -> u64 {
-        if self.figures.count as usize * self.figures.length <= self.bytes.len() {
-            self.figures.count
-        } else {
-            0
-        }
+        if self.sound() { self.count } else { 0 }
     }
 
     fn length(&self) -> usize {
-        self.figures.length
+        if self.sound() { self.length } else { 64 }
     }
 
     fn layer(&self) -> u16 {
@@ -92,7 +91,7 @@ pub impl SectorStore for FlatMedium<'_> as FlatStore {
     }
 
     fn read(&self, n: u64, buffer: &mut [u8]) -> Result<(), Fault> {
-        if buffer.len() != self.figures.length {
+        if buffer.len() != self.length() {
             return Err(Fault {
                 refusal: Refusal::BufferLength,
                 sector: n,
@@ -111,7 +110,7 @@ pub impl SectorStore for FlatMedium<'_> as FlatStore {
     }
 
     fn write(&mut self, n: u64, buffer: &[u8]) -> Result<(), Fault> {
-        if buffer.len() != self.figures.length {
+        if buffer.len() != self.length() {
             return Err(Fault {
                 refusal: Refusal::BufferLength,
                 sector: n,

@@ -1,5 +1,4 @@
 pub mod fault;
-mod figures;
 pub mod flat;
 pub mod layer;
 mod lookup;
@@ -8,5 +7,4 @@ mod places;
 pub mod spared;
 pub mod state;
 pub mod store;
-mod table;
 pub mod window;

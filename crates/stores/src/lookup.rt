@@ -1,8 +1,7 @@
 ghost use mathlib.Core.Path.{_≡_};
-ghost use Prim.Native.Nat.{_+_, _<_};
-ghost use denote.Ref.{now as held};
+ghost use Prim.Native.Nat.{_≤_};
+ghost use lib.ListN.{length};
 ghost use Rattle.stores.specs.Spared.{listed as listed-in, position, spare-place};
-use crate::table::SpareTable;
 
 // Where the sector stands in the list.
 pub(crate) fn find(bad: &[u64], n: u64) -> Option<usize>
@@ -32,21 +31,13 @@ pub(crate) fn listed(bad: &[u64], count: u64) -> bool
     true
 }
 
-impl SpareTable<'_> {
-    // How many places the medium has.
-    pub(crate) fn places(&self) -> usize
-        ensures { λ r. ⌜ r ≡ now (self .entry) .figures .count + now (self .entry) .spares ⌝ }
-    {
-        self.figures.count as usize + self.spares
-    }
-
-    // The spare place of a bad sector. Past the last place, the sector has none and has failed.
-    pub(crate) fn spare(&self, n: u64) -> Option<usize>
-        ensures { λ r. ⌜ r ≡ spare-place (now (self .entry) .figures .count) (position (held (now (self .entry) .bad)) n) ⌝ }
-    {
-        match find(self.bad, n) {
-            None => None,
-            Some(i) => Some(self.figures.count as usize + i),
-        }
+// The spare place of a bad sector. Past the last place, the sector has none and has failed.
+pub(crate) fn spare(bad: &[u64], count: u64, n: u64) -> Option<usize>
+    requires { ⌜ count ≤ 65536 ⌝ ∗ ⌜ length (now bad) ≤ 16 ⌝ }
+    ensures { λ r. ⌜ r ≡ spare-place count (position (now (bad .entry)) n) ⌝ }
+{
+    match find(bad, n) {
+        None => None,
+        Some(i) => Some(count as usize + i),
     }
 }

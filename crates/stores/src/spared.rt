@@ -8,23 +8,25 @@ ghost use Rattle.sector.specs.declared.refusal.Refusal.the-variants.{BufferLeng
 ghost use Rattle.stores.specs.Layers.{alone};
 ghost use Rattle.stores.specs.Limits.{spared-sound};
 ghost use Rattle.stores.specs.Media.{checked};
-ghost use Rattle.stores.specs.Spared.{Failures, made-spared, spared-figures, spared-store};
+ghost use Rattle.stores.specs.Spared.{Failures, spared-figures, spared-medium};
 use crate::fault::Fault;
-use crate::figures::Figures;
 use crate::lookup::listed;
+use crate::lookup::spare;
 use crate::places::get_place;
 use crate::places::put_place;
 use crate::state::SectorState;
 use crate::store::SectorStore;
-use crate::table::SpareTable;
 use sector::refusal::Refusal;
 
 // Sectors in memory that the maker lends, with spare places for bad sectors. A bad sector for which there is no spare
-// has failed.
+// has failed. A medium whose figures break a rule is empty, with the length 64.
 #[derive(Drop)]
 pub struct SparedMedium<'a> {
     bytes: &'a mut [u8],
-    table: SpareTable<'a>,
+    count: u64,
+    length: usize,
+    spares: usize,
+    bad: &'a [u64],
 }
 
 impl<'a> SparedMedium<'a> {
@@ -51,7 +53,7 @@ impl<'a> SparedMedium<'a> {
         Ok(())
     }
 
-    // A medium over the bytes. With figures that break a rule it is empty, with the length 64. No byte changes.
+    // A medium over the bytes. With figures that the check refuses it is empty, with the length 64. No byte changes.
     pub fn new(
         bytes: &'a mut [u8],
         count: u64,
@@ -59,51 +61,57 @@ impl<'a> SparedMedium<'a> {
         spares: usize,
         bad: &'a [u64],
     ) -> SparedMedium<'a>
-        ensures store { λ r. ⌜ spared-store (held (r .bytes)) (r .table .figures .count) (r .table .figures .length) (r .table .spares) (held (r .table .bad)) ≡ made-spared (held (bytes .entry)) count length spares (held (bad .entry)) ⌝ }
+        ensures store { λ r. ⌜ spared-medium (held (r .bytes)) (r .count) (r .length) (r .spares) (held (r .bad)) ≡ spared-medium (held (bytes .entry)) count length spares (held (bad .entry)) ⌝ }
         ensures bytes { λ r. ⌜ held (r .bytes) ≡ held (bytes .entry) ⌝ }
     {
-        if SparedMedium::check(bytes.len(), count, length, spares, bad).is_ok() {
-            SparedMedium {
-                bytes,
-                table: SpareTable {
-                    figures: Figures { count, length },
-                    spares,
-                    bad,
-                },
-            }
-        } else {
-            SparedMedium {
-                bytes,
-                table: SpareTable {
-                    figures: Figures {
-                        count: 0,
-                        length: 64,
-                    },
-                    spares: 0,
-                    bad: &[],
-                },
-            }
+        SparedMedium {
+            bytes,
+            count,
+            length,
+            spares,
+            bad,
         }
+    }
+
+    fn sound(&self) -> bool
+        ensures { λ r. ⌜ r ≡ spared-figures (size-of (held (now (self .entry) .bytes))) (now (self .entry) .count) (now (self .entry) .length) (now (self .entry) .spares) (held (now (self .entry) .bad)) ⌝ }
+    {
+        SparedMedium::check(
+            self.bytes.len(),
+            self.count,
+            self.length,
+            self.spares,
+            self.bad,
+        ).is_ok()
     }
 
     // Gives the bytes back as they are.
     pub fn into_bytes(self) -> &'a mut [u8]
         ensures { λ r. ⌜ held r ≡ held (self .entry .bytes) ⌝ }
     {
-        let SparedMedium { bytes, table: _ } = self;
+        let SparedMedium {
+            bytes,
+            count: _,
+            length: _,
+            spares: _,
+            bad: _,
+        } = self;
         bytes
     }
 
     // Writes the failed sectors into the first entries of the buffer and answers how many they are. Their order is left
     // open. A buffer with fewer entries is refused and keeps what it holds.
     pub fn failures(&self, buffer: &mut [u64]) -> Result<usize, Refusal>
-        ensures { λ r. ⌜ ((fs : List ℕ) × Failures (spared-store (held (now (self .entry) .bytes)) (now (self .entry) .table .figures .count) (now (self .entry) .table .figures .length) (now (self .entry) .table .spares) (held (now (self .entry) .table .bad))) fs
+        ensures { λ r. ⌜ ((fs : List ℕ) × Failures (spared-medium (held (now (self .entry) .bytes)) (now (self .entry) .count) (now (self .entry) .length) (now (self .entry) .spares) (held (now (self .entry) .bad))) fs
             × Cases r
             (λ k. (k ≡ size-of fs) × (now (buffer .exit) ≡ fs ++ drop (size-of fs) (now (buffer .entry))))
             (λ e. (e ≡ BufferLength) × (size-of (now (buffer .entry)) < size-of fs) × (now (buffer .exit) ≡ now (buffer .entry)))) ⌝ }
     {
-        let bad = self.table.bad;
-        let from = bad.len().min(self.table.spares);
+        if !self.sound() {
+            return Ok(0);
+        }
+        let bad = self.bad;
+        let from = bad.len().min(self.spares);
         let failed = bad.len() - from;
         if buffer.len() < failed {
             return Err(Refusal::BufferLength);
@@ -114,20 +122,16 @@ impl<'a> SparedMedium<'a> {
 }
 
 pub impl SectorStore for SparedMedium<'_> as SparedStore {
-    ghost view = { λ s. alone (spared-store (held (s .bytes)) (s .table .figures .count) (s .table .figures .length) (s .table .spares) (held (s .table .bad))) };
+    ghost view = { λ s. alone (spared-medium (held (s .bytes)) (s .count) (s .length) (s .spares) (held (s .bad))) };
 
-    ghost sound = { λ s. spared-sound (held (s .bytes)) (s .table .figures .count) (s .table .figures .length) (s .table .spares) (held (s .table .bad)) (s .table .figures .few) (s .table .figures .long) (s .table .figures .short) (s .table .figures .even) };
+    ghost sound = { λ s. spared-sound (held (s .bytes)) (s .count) (s .length) (s .spares) (held (s .bad)) };
 
     fn count(&self) -> u64 {
-        if self.table.places() * self.table.figures.length <= self.bytes.len() {
-            self.table.figures.count
-        } else {
-            0
-        }
+        if self.sound() { self.count } else { 0 }
     }
 
     fn length(&self) -> usize {
-        self.table.figures.length
+        if self.sound() { self.length } else { 64 }
     }
 
     fn layer(&self) -> u16 {
@@ -138,10 +142,10 @@ pub impl SectorStore for SparedMedium<'_> as SparedStore {
         if n >= self.count() {
             return SectorState::Missing;
         }
-        match self.table.spare(n) {
+        match spare(self.bad, self.count, n) {
             None => SectorState::Ready,
             Some(place) => {
-                if place < self.table.places() {
+                if place < self.count as usize + self.spares {
                     SectorState::Ready
                 } else {
                     SectorState::Failed
@@ -151,7 +155,7 @@ pub impl SectorStore for SparedMedium<'_> as SparedStore {
     }
 
     fn read(&self, n: u64, buffer: &mut [u8]) -> Result<(), Fault> {
-        if buffer.len() != self.table.figures.length {
+        if buffer.len() != self.length() {
             return Err(Fault {
                 refusal: Refusal::BufferLength,
                 sector: n,
@@ -165,13 +169,13 @@ pub impl SectorStore for SparedMedium<'_> as SparedStore {
                 layer: 0,
             });
         }
-        match self.table.spare(n) {
+        match spare(self.bad, self.count, n) {
             None => {
                 get_place(&*self.bytes, n as usize, buffer);
                 Ok(())
             }
             Some(place) => {
-                if place >= self.table.places() {
+                if place >= self.count as usize + self.spares {
                     return Err(Fault {
                         refusal: Refusal::SectorFailed,
                         sector: n,
@@ -185,7 +189,7 @@ pub impl SectorStore for SparedMedium<'_> as SparedStore {
     }
 
     fn write(&mut self, n: u64, buffer: &[u8]) -> Result<(), Fault> {
-        if buffer.len() != self.table.figures.length {
+        if buffer.len() != self.length() {
             return Err(Fault {
                 refusal: Refusal::BufferLength,
                 sector: n,
@@ -199,14 +203,13 @@ pub impl SectorStore for SparedMedium<'_> as SparedStore {
                 layer: 0,
             });
         }
-        let table = self.table;
-        match table.spare(n) {
+        match spare(self.bad, self.count, n) {
             None => {
                 put_place(self.bytes, n as usize, buffer);
                 Ok(())
             }
             Some(place) => {
-                if place >= table.places() {
+                if place >= self.count as usize + self.spares {
                     return Err(Fault {
                         refusal: Refusal::SectorFailed,
                         sector: n,

@@ -1,47 +1,45 @@
 use mathlib.Core.Path.{_≡_, refl, sym, _∙_, ap, subst}
-use Prim.Native.Nat.{_<_, _≤_, _+_, _*_}
-use native.Mathlib.Omega.{arith}
+use Prim.Native.Nat.{_<_, _≤_}
 use lib.ListN.{length}
-use Rattle.sector.specs.declared.refusal.Refusal.the-variants.{BufferLength, SectorNumber}
-use Rattle.stores.specs.Stores.{outcome, filled}
-use Rattle.stores.specs.Media.{flat-store, place}
-use Rattle.stores.proofs.Answered.{refusal-length, refusal-sector, refusal-in, own-fault, read-refused}
-use Rattle.stores.proofs.Lying.{fits-below, place-end}
+use Rattle.sector.specs.declared.refusal.Refusal.the-variants.{BufferLength, SectorNumber, SectorFailed}
+use Rattle.stores.specs.Layers.{alone}
+use Rattle.stores.specs.Media.{flat-medium}
+use Rattle.stores.proofs.Lying.{layer-zero, flat-place, flat-answered, flat-read}
+use Rattle.stores.proofs.Answered.{refusal-length, refusal-sector, own-fault, read-refused}
 use Rattle.stores.proofs.flat.FlatStore.read.Needs as need
 
-pub returns-then-buffer-self : need.returns-then-buffer-self
-returns-then-buffer-self c =
+pub returns-then-buffer-length : need.returns-then-buffer-length
+returns-then-buffer-length c =
     let s = c .args .self .now in
-    let m = flat-store (s .bytes .now) (s .figures .count) (s .figures .length) in
-    let old = c .args .buffer .now in
-    let e = refusal-length m (c .args .n) (length old) (c .if-buffer-self .taken) in
-    record { answer = own-fault BufferLength (c .args .n) 0 0 _ e refl; filled = read-refused m (c .args .n) old _ _ e }
+    let m = flat-medium (s .bytes .now) (s .count) (s .length) in
+    let n = c .args .n in
+    let xs = c .args .buffer .now in
+    let e = refusal-length m n (length xs) (λ h. c .if-buffer-length .taken (h ∙ sym (c .length .ensures))) in
+    record { answer = own-fault BufferLength n 0 _ _ e (sym (layer-zero (s .bytes .now) (s .count) (s .length))); filled = read-refused m n xs _ _ e }
 
 pub returns-then-n-count : need.returns-then-n-count
 returns-then-n-count c =
     let s = c .args .self .now in
-    let m = flat-store (s .bytes .now) (s .figures .count) (s .figures .length) in
-    let old = c .args .buffer .now in
-    let e = refusal-sector m (c .args .n) (length old) (c .if-buffer-self .left) (subst (λ x. x ≤ c .args .n) (c .count .ensures) (c .if-n-count .taken)) in
-    record { answer = own-fault SectorNumber (c .args .n) 0 0 _ e refl; filled = read-refused m (c .args .n) old _ _ e }
+    let m = flat-medium (s .bytes .now) (s .count) (s .length) in
+    let n = c .args .n in
+    let xs = c .args .buffer .now in
+    let e = refusal-sector m n (length xs) (c .if-buffer-length .left ∙ c .length .ensures) (subst (λ x. x ≤ n) (c .count .ensures) (c .if-n-count .taken)) in
+    record { answer = own-fault SectorNumber n 0 _ _ e (sym (layer-zero (s .bytes .now) (s .count) (s .length))); filled = read-refused m n xs _ _ e }
 
 pub get-place-requires : need.get-place-requires
 get-place-requires c κs =
     let s = c .args .self .now in
-    let size = s .figures .length in
-    let f = fits-below (length (s .bytes .now)) (s .figures .count) size (s .figures .count) (c .args .n) (subst (λ x. c .args .n < x) (c .count .ensures) (c .if-n-count .left)) in
-    let h : c .args .n * size + size ≤ length (s .bytes .now) = omega (arith, f .1, place-end (c .args .n) (s .figures .count) size (f .0)) in
-    subst (λ z. c .args .n * z + z ≤ length (s .bytes .now)) (sym (c .if-buffer-self .left)) h
+    let n = c .args .n in
+    let xs = c .args .buffer .now in
+    flat-place (s .bytes .now) (s .count) (s .length) n (subst (λ x. n < x) (c .count .ensures) (c .if-n-count .left)) (length xs) (c .if-buffer-length .left ∙ c .length .ensures)
 
 pub returns : need.returns
 returns c =
     let s = c .args .self .now in
     let n = c .args .n in
-    let all = s .bytes .now in
-    let m = flat-store all (s .figures .count) (s .figures .length) in
-    let old = c .args .buffer .now in
-    let e = refusal-in m n (length old) (c .if-buffer-self .left) (subst (λ x. n < x) (c .count .ensures) (c .if-n-count .left)) in
+    let xs = c .args .buffer .now in
+    let below = (subst (λ x. n < x) (c .count .ensures) (c .if-n-count .left)) in
     record {
-      answer = ap outcome (sym e);
-      filled = c .get-place .ensures ∙ ap (λ z. place all z n) (c .if-buffer-self .left) ∙ ap (λ v. filled v old (m .bytes n)) (sym e);
+      answer = flat-answered (s .bytes .now) (s .count) (s .length) n below (length xs) (c .if-buffer-length .left ∙ c .length .ensures);
+      filled = flat-read (s .bytes .now) (s .count) (s .length) n below xs _ (c .if-buffer-length .left ∙ c .length .ensures) (c .get-place .ensures);
     }
