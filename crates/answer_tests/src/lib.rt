@@ -1,3 +1,5 @@
+#![tactic(auto)]
+
 mod sectors;
 
 // What lines are understood, and what is said of them.

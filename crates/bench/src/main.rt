@@ -1,3 +1,5 @@
+#![tactic(auto)]
+
 // Runs the sheet on standard input and prints what came of each of its records.
 ghost use Rattle.std.specs.Prelude.{◌≡◌, IfOk, vec_len};
 ghost use Rattle.std.specs.Io.{ReadsAtMost};

@@ -1,3 +1,5 @@
+#![tactic(auto)]
+
 pub mod aes;
 pub mod choice;
 pub mod function;

@@ -4,7 +4,7 @@ use lib.Bits.{bit_xor, xor_comm, xor_assoc, xor_zero_r, xor_self, xor_shifted}
 use lib.Pow.{split}
 use Rattle.std.proofs.lemmas.Nat.{div_below}
 use Rattle.elements.specs.Field.{pick, double, times, carryless, Multiple, none, plus, Reduced}
-use Rattle.elements.specs.Powers.{xor4, pick_add, pick_mul, xor_twice, times_lt, double_lt}
+use Rattle.elements.specs.Powers.{xor4, pick_add, pick_mul, xor_twice, double_lt}
 
 carryless_add : (k a x y : ℕ) → carryless k a (bit_xor x y) ≡ bit_xor (carryless k a x) (carryless k a y)
 unfolding carryless

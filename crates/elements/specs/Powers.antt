@@ -1,7 +1,7 @@
 -- The laws of the product, over the width w and the feedback r. Assumes nothing.
-use Rattle.std.specs.Prelude.{◌≡◌, ℕ, zero, suc, ◌+◌, ◌-◌, ◌*◌, ◌/◌, ◌%◌, ◌^◌, ◌<◌, ◌≤◌, ◌⊎◌, bit_xor}
+use Rattle.std.specs.Prelude.{◌≡◌, ℕ, zero, suc, ◌+◌, ◌-◌, ◌*◌, ◌/◌, ◌%◌, ◌^◌, ◌<◌, ◌≤◌, bit_xor}
 use Rattle.std.proofs.Math.Path.{refl, sym, ap, ap₂}
-use Rattle.std.proofs.Common.{◌∙◌, subst, inl, inr, zero-mul, one-mul, mul-one, add-zero, zero-add, mul_assoc, mod-lt, pow-suc, div-add-mod', pow-add}
+use Rattle.std.proofs.Common.{◌∙◌, zero-mul, one-mul, mul-one, add-zero, mod-lt, pow-suc, div-add-mod'}
 use Rattle.std.proofs.Math.Nat.{mod-eq_of_lt, div-eq_of_lt}
 use native.Mathlib.Omega.{arith}
 use Rattle.std.proofs.lemmas.Nat.{xor_comm, xor_block}

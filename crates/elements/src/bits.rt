@@ -36,7 +36,7 @@ pub trait Word: Copy {
 
 // The product of two words, by doubling and adding alone.
 pub fn times<W: Word>(x: W, y: W) -> W
-    ensures { bits result ≡ product width feedback width (bits x) (bits y) }
+    ensures { W.bits result ≡ product W.width W.feedback W.width (W.bits x) (W.bits y) }
 {
     let mut sum = W::none();
     let mut rest = x;

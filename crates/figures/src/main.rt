@@ -1,3 +1,5 @@
+#![tactic(auto)]
+
 // Prints the degrees in the key of Horner and BRW of 3, 4, 7, 31 and 255 blocks.
 use polynomials::degrees::degrees_of;
 use std::io;

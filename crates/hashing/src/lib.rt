@@ -1,3 +1,5 @@
+#![tactic(auto)]
+
 ghost use Rattle.std.specs.Prelude.{◌≡◌, List};
 ghost use Rattle.elements.specs.declared.values.Block.{Block};
 ghost use Rattle.polynomials.specs.Blocks.{blocks_of};

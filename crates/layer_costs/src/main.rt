@@ -1,3 +1,5 @@
+#![tactic(auto)]
+
 // layer_costs CIPHER HASH LAYERS LENGTH WRITES READS: puts so many writes and then so many reads of one sector to a stack of
 // enciphering layers (0, 1, 2 or 4) over a flat medium, and prints how the sector lies in the medium and what was read, the
 // first eight bytes of each. Nothing allocates but the start.

@@ -1,3 +1,5 @@
+#![tactic(auto)]
+
 pub mod cipher;
 mod height;
 pub mod window;

@@ -1,3 +1,5 @@
+#![tactic(auto)]
+
 pub mod flat;
 mod lookup;
 mod places;

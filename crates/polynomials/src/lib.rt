@@ -1,3 +1,5 @@
+#![tactic(auto)]
+
 pub mod degrees;
 pub mod lists;
 pub mod sums;

@@ -1,3 +1,5 @@
+#![tactic(auto)]
+
 // Reads runs of stacks from standard input, puts the calls of each and prints whether every answer and the medium's bytes
 // at the end are those named there.
 mod plan;

@@ -1,3 +1,5 @@
+#![tactic(auto)]
+
 mod counter;
 pub mod cover;
 pub mod numbers;

@@ -1,3 +1,5 @@
+#![tactic(auto)]
+
 // Tests of the crates `hashing` and `sector`.
 #[cfg(test)]
 mod call_tests;

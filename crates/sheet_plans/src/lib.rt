@@ -1,2 +1,4 @@
+#![tactic(auto)]
+
 pub mod answers;
 pub mod plans;

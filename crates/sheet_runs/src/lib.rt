@@ -1,2 +1,4 @@
+#![tactic(auto)]
+
 mod puts;
 pub mod runs;

@@ -1,3 +1,5 @@
+#![tactic(auto)]
+
 // Tests of the crates for sheets and `lines`: sheets with what is printed for them.
 #[cfg(test)]
 mod draft;

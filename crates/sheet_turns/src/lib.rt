@@ -1,2 +1,4 @@
+#![tactic(auto)]
+
 pub mod settings;
 pub mod turns;

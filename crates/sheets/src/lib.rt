@@ -1,2 +1,4 @@
+#![tactic(auto)]
+
 pub mod reading;
 pub mod records;

@@ -1,3 +1,5 @@
+#![tactic(auto)]
+
 // Tests of the crates `stores` and `stacks`.
 #[cfg(test)]
 mod bound_tests;

@@ -1,3 +1,5 @@
+#![tactic(auto)]
+
 mod admit;
 pub mod dimensions;
 pub mod fault;

@@ -1,3 +1,5 @@
+#![tactic(auto)]
+
 pub mod hex;
 pub mod numbers;
 pub mod theorems;

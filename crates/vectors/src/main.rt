@@ -1,3 +1,5 @@
+#![tactic(auto)]
+
 // Reads known answers from standard input, one to a line, works each out and prints whether it agrees.
 use answers::reading::without_end;
 use anyhow::anyhow;

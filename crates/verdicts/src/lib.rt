@@ -1,3 +1,5 @@
+#![tactic(auto)]
+
 pub mod agreement;
 mod sectors;
 pub mod verdict;

@@ -18,5 +18,5 @@ returns c =
     let end : c.loop-j.j ≡ n = omega (arith, c.loop-j.auto.j-end (omega arith)) in
     c.block.ensures
     ∙ all_rounds rows n c.loop-j.j c.args.x
-    (columns_of c.of-state.result) (columns_of c.add.new.self) (columns_of c.loop-j.state) (columns_of c.last-round.new.self)
-    (omega arith) end c.of-state.ensures c.add.ensures c.loop-j.invariant c.last-round.ensures
+    (columns_of c.of-state.result) (columns_of c.add.new.self) (columns_of c.loop-j.state) (columns_of c.last_round.new.self)
+    (omega arith) end c.of-state.ensures c.add.ensures c.loop-j.invariant c.last_round.ensures

@@ -7,7 +7,7 @@ use Rattle.aes_cipher.proofs.schedule.temp.Goals as goal
 pub returns-then-i-nk-eq0 : goal.returns-then-i-nk-eq0
 returns-then-i-nk-eq0 c =
     c.add.ensures
-    ∙ ap₂ add_words (c.sub.ensures ∙ ap sub_word c.rotate.ensures) c.of-round.ensures
+    ∙ ap₂ add_words (c.sub.ensures ∙ ap sub_word c.rotate.ensures) c.of_round.ensures
     ∙ sym (temp_turned c.args.nk c.args.i (column_word c.args.before) c.if-i-nk-eq0.true)
 
 pub returns-else-i-nk-eq0 : goal.returns-else-i-nk-eq0

@@ -4,8 +4,8 @@ use Rattle.answers.specs.Views.{known_of}
 use Rattle.answers.proofs.Laws.{as_written}
 use Rattle.answers.proofs.reading.read_line.Goals as goal
 
-pub returns-then-is-remark : goal.returns-then-is-remark
-returns-then-is-remark c =
+pub returns-then-is_remark : goal.returns-then-is_remark
+returns-then-is_remark c =
     let value : passed ≡ read c.args.line.now = search rules in
     record { value = value; written = as_written c.args.line.now passed value }
 

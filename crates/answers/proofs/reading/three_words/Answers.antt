@@ -15,11 +15,11 @@ not_three a b c t = fourth a b c (words t) ∙ ap (λ ws. three (a ∷ (b ∷ (c
 
 pub returns-in-Some : goal.returns-in-Some
 returns-in-Some c =
-    let first = c.first-word-first.result.word.now in
-    let second = c.first-word-second.result.word.now in
-    let third = c.first-word-third.result.word.now in
-    let all = ap words_left c.in-ok-text.was ∙ c.first-word-first.ensures
-    ∙ ap (λ o. first ∷ words_left o) c.in-ok-first.was ∙ ap (λ ws. first ∷ ws) c.first-word-second.ensures
-    ∙ ap (λ o. first ∷ (second ∷ words_left o)) c.in-ok-second.was ∙ ap (λ ws. first ∷ (second ∷ ws)) c.first-word-third.ensures
+    let first = c.first_word-first.result.word.now in
+    let second = c.first_word-second.result.word.now in
+    let third = c.first_word-third.result.word.now in
+    let all = ap words_left c.in_ok-text.was ∙ c.first_word-first.ensures
+    ∙ ap (λ o. first ∷ words_left o) c.in_ok-first.was ∙ ap (λ ws. first ∷ ws) c.first_word-second.ensures
+    ∙ ap (λ o. first ∷ (second ∷ words_left o)) c.in_ok-second.was ∙ ap (λ ws. first ∷ (second ∷ ws)) c.first_word-third.ensures
     ∙ ap (λ o. first ∷ (second ∷ (third ∷ words_left o))) c.in-Some.is in
     not_three first second third c.in-Some.field-0.now ∙ sym (ap three all)

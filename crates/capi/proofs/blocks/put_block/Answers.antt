@@ -9,5 +9,5 @@ returns c =
     let is : whole out ≡ true = eq-eqb (length out) 16 (omega arith) in
     record {
       answer = sym (ap (λ b. cond b 0 2) is);
-      output = c.copy-from-slice.ensures.after ∙ c.to-bytes.ensures.value ∙ sym (ap (λ b. cond b (bytes_out c.args.x) out) is);
+      output = c.copy_from_slice.ensures.after ∙ c.to_bytes.ensures.value ∙ sym (ap (λ b. cond b (bytes_out c.args.x) out) is);
     }

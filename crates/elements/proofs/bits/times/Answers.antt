@@ -1,4 +1,4 @@
-use Rattle.std.proofs.Common.{◌≡◌, ℕ, ◌+◌, ◌-◌, ◌/◌, ◌%◌, ◌<◌, sym, ap, ◌∙◌, ap₂, arith}
+use Rattle.std.proofs.Common.{◌≡◌, ℕ, ◌+◌, ◌-◌, ◌%◌, ◌<◌, sym, ap, ◌∙◌, ap₂, arith}
 use lib.Bits.{bit_xor}
 use Rattle.elements.specs.Field.{pick, double, times}
 use Rattle.elements.specs.Powers.{times_next, times_none}
@@ -17,7 +17,7 @@ loop-i-preserved g c =
     let w : ℕ = m.width in
     let within : l.i < w = omega (arith, c.width-i-end.ensures) in
     ap₂ (λ (s p : ℕ). bit_xor s (times w m.feedback (w - (l.i + 1)) (m.bits c.half-rest.result) p))
-    (c.xor-sum.ensures ∙ ap (bit_xor (m.bits l.sum)) c.last-picks.ensures) c.double-power.ensures
+    (c.xor-sum.ensures ∙ ap (bit_xor (m.bits l.sum)) c.last_picks.ensures) c.double-power.ensures
     ∙ ap (λ (a : ℕ). bit_xor (bit_xor (m.bits l.sum) (pick (m.bits l.rest % 2) (m.bits l.power))) (times w m.feedback (w - (l.i + 1)) a (double w m.feedback (m.bits l.power)))) c.half-rest.ensures
     ∙ times_next w m.feedback w l.i (m.bits l.sum) (m.bits l.rest) (m.bits l.power) within ∙ l.invariant
 

@@ -8,20 +8,20 @@ pub returns-then-sector-count : goal.returns-then-sector-count
 returns-then-sector-count c =
     sym (listed_past c.args.count c.args.bad.now c.loop-i.i c.loop-i-test.true c.if-sector-count.true) ∙ c.loop-i.invariant
 
-pub returns-then-is-some : goal.returns-then-is-some
-returns-then-is-some c =
+pub returns-then-is_some : goal.returns-then-is_some
+returns-then-is_some c =
     let bad = c.args.bad.now in
     let i = c.loop-i.i in
-    sym (listed_on c.args.count bad i c.loop-i-test.true c.is-some.result c.if-sector-count.false (c.is-some.ensures ∙ ap is_some c.find.ensures)
-    ∙ ap (λ b. not b && listed c.args.count (drop (i + 1) bad)) c.if-is-some.true)
+    sym (listed_on c.args.count bad i c.loop-i-test.true c.is_some.result c.if-sector-count.false (c.is_some.ensures ∙ ap is_some c.find.ensures)
+    ∙ ap (λ b. not b && listed c.args.count (drop (i + 1) bad)) c.if-is_some.true)
     ∙ c.loop-i.invariant
 
 pub loop-i-preserved : goal.loop-i-preserved
 loop-i-preserved c =
     let bad = c.args.bad.now in
     let i = c.loop-i.i in
-    sym (listed_on c.args.count bad i c.loop-i-test.true c.is-some.result c.if-sector-count.false (c.is-some.ensures ∙ ap is_some c.find.ensures)
-    ∙ ap (λ b. not b && listed c.args.count (drop (i + 1) bad)) c.if-is-some.false)
+    sym (listed_on c.args.count bad i c.loop-i-test.true c.is_some.result c.if-sector-count.false (c.is_some.ensures ∙ ap is_some c.find.ensures)
+    ∙ ap (λ b. not b && listed c.args.count (drop (i + 1) bad)) c.if-is_some.false)
     ∙ c.loop-i.invariant
 
 pub returns : goal.returns

@@ -24,8 +24,8 @@ returns-then-m-eq2 g t c =
     c.add.ensures ∙ ap (λ e. o.sum e y.result) c.mul.ensures
     ∙ part_two o c.args.key (g.L.Elements.items c.args.xs.now) c.args.from c.args.to x.result y.result (omega arith) (omega arith) x.ensures y.ensures
 
-pub power-at-requires : goal.power-at-requires
-power-at-requires g t c =
+pub power_at-requires : goal.power_at-requires
+power_at-requires g t c =
     let m : c.args.to - c.args.from ≡ 3 = c.if-m-eq3.true in
     record { squares = c.requires.squares; within = exponent_lt 3 1 (length c.args.powers.now) (omega arith) (omega (arith, c.requires.enough (omega arith))) }
 
@@ -36,13 +36,13 @@ returns-then-m-eq3 g t c =
     let y = c.element-then-m-eq3-2 in
     let z = c.element-then-m-eq3-3 in
     let low = c.add-low.ensures in
-    let middle = c.add-middle.ensures ∙ ap (o.sum y.result) c.power-at.ensures in
+    let middle = c.add-middle.ensures ∙ ap (o.sum y.result) c.power_at.ensures in
     c.add-then-m-eq3.ensures ∙ ap (λ e. o.sum e z.result) (c.mul-then-m-eq3.ensures ∙ ap₂ o.product low middle)
     ∙ part_three o c.args.key (g.L.Elements.items c.args.xs.now) c.args.from c.args.to x.result y.result z.result
     (omega arith) (omega arith) x.ensures y.ensures z.ensures
 
-pub power-at-requires-2 : goal.power-at-requires-2
-power-at-requires-2 g t c = record {
+pub power_at-requires-2 : goal.power_at-requires-2
+power_at-requires-2 g t c = record {
   squares = c.requires.squares;
   within = exponent_lt (c.args.to - c.args.from) c.ilog2-k.result (length c.args.powers.now) c.ilog2-k.ensures.power_le (c.requires.enough (omega arith));
 }
@@ -53,7 +53,7 @@ returns g t c =
     let k = c.ilog2-k.result in
     let T : ℕ = (1 * 2 ^ k) % 2 ^ 64 in
     let is : T ≡ 2 ^ k = one_shl k 64 c.ilog2-k.ensures.bound in
-    c.add-2.ensures ∙ ap (λ e. o.sum e c.brw-part-high.result) (c.mul-2.ensures ∙ ap (o.product c.brw-part-low.result) c.add-middle-2.ensures)
-    ∙ part_more o c.args.key (g.L.Elements.items c.args.xs.now) c.args.from c.args.to T k c.brw-part-low.result c.element-2.result c.power-at-2.result c.brw-part-high.result
+    c.add-2.ensures ∙ ap (λ e. o.sum e c.brw_part-high.result) (c.mul-2.ensures ∙ ap (o.product c.brw_part-low.result) c.add-middle-2.ensures)
+    ∙ part_more o c.args.key (g.L.Elements.items c.args.xs.now) c.args.from c.args.to T k c.brw_part-low.result c.element-2.result c.power_at-2.result c.brw_part-high.result
     (omega arith) (omega arith) is c.ilog2-k.ensures.power_le c.ilog2-k.ensures.next-power-gt
-    c.brw-part-low.ensures c.element-2.ensures c.power-at-2.ensures c.brw-part-high.ensures
+    c.brw_part-low.ensures c.element-2.ensures c.power_at-2.ensures c.brw_part-high.ensures

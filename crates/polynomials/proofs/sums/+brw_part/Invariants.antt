@@ -1,5 +1,5 @@
 use Rattle.std.proofs.Common.{◌-◌}
 use Rattle.polynomials.proofs.sums.+brw_part.Given as goal
 
-abbrev pub decreases-brw-part : goal.decreases-brw-part
-decreases-brw-part g l = l.to - l.from
+abbrev pub decreases-brw_part : goal.decreases-brw_part
+decreases-brw_part g l = l.to - l.from

@@ -10,8 +10,8 @@ returns g c =
     let xs = g.L.Elements.items c.args.xs.now in
     let ps = c.args.powers.now in
     record {
-      value = c.brw-by-squares.ensures.value ∙ ap (λ v. cond (room (length ps) (length xs)) (Some v) None) (squares_do laws c.args.key xs);
-      enough = λ h. c.brw-by-squares.ensures.enough h ∙ ap Some (squares_do laws c.args.key xs);
-      powers = c.brw-by-squares.ensures.powers
+      value = c.brw_by_squares.ensures.value ∙ ap (λ v. cond (room (length ps) (length xs)) (Some v) None) (squares_do laws c.args.key xs);
+      enough = λ h. c.brw_by_squares.ensures.enough h ∙ ap Some (squares_do laws c.args.key xs);
+      powers = c.brw_by_squares.ensures.powers
           ∙ ap (λ p. cond (room (length ps) (length xs)) (filled p (levels (length xs)) ps) ps) (squares_are_powers laws c.args.key);
     }

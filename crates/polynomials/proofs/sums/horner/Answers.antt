@@ -4,8 +4,8 @@ use Rattle.polynomials.specs.Sums.{horner}
 use Rattle.polynomials.proofs.Parts.{nth_found, nth_reaches, nth_empty}
 use Rattle.polynomials.proofs.sums.horner.Goals as goal
 
-pub horner-part-requires : goal.horner-part-requires
-horner-part-requires g c = nth_reaches (g.L.Elements.items c.args.xs.now) 0 c.in-Some.first (sym c.get.ensures ∙ c.in-Some.is)
+pub horner_part-requires : goal.horner_part-requires
+horner_part-requires g c = nth_reaches (g.L.Elements.items c.args.xs.now) 0 c.in-Some.first (sym c.get.ensures ∙ c.in-Some.is)
 
 pub returns-in-None : goal.returns-in-None
 returns-in-None g c =
@@ -17,5 +17,5 @@ returns-in-Some g c =
     let xs = g.L.Elements.items c.args.xs.now in
     let x = c.in-Some.first in
     let found = sym c.get.ensures ∙ c.in-Some.is in
-    c.horner-part.ensures
+    c.horner_part.ensures
     ∙ sym (ap (horner g.E.Arithmetic.operations c.args.key) (drop_more xs 0 x (nth_reaches xs 0 x found) ∙ ap (λ y. y ∷ drop 1 xs) (sym (nth_found xs 0 x found))))

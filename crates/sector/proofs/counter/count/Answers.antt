@@ -7,9 +7,9 @@ pub loop-k-preserved : goal.loop-k-preserved
 loop-k-preserved g c =
     let F = g.F.BlockFunction.function c.args.f.now in
     let text = c.args.text.now in
-    count_more F c.args.z c.loop-k.k (length text / 16) c.add-x.result text c.loop-k.output c.put-block.new.output (omega arith) (omega arith)
-    (c.add-x.ensures ∙ ap₂ ◌⊕◌ c.block-at.ensures (c.call-mask.ensures ∙ ap F (c.add.ensures ∙ ap (◌⊕◌ c.args.z) c.new.ensures)))
-    c.put-block.ensures
+    count_more F c.args.z c.loop-k.k (length text / 16) c.add-x.result text c.loop-k.output c.put_block.new.output (omega arith) (omega arith)
+    (c.add-x.ensures ∙ ap₂ ◌⊕◌ c.block_at.ensures (c.call-mask.ensures ∙ ap F (c.add.ensures ∙ ap (◌⊕◌ c.args.z) c.new.ensures)))
+    c.put_block.ensures
     ∙ c.loop-k.invariant
 
 pub returns : goal.returns

@@ -5,4 +5,4 @@ use Rattle.sector.proofs.pieces.put_block.Goals as goal
 
 pub returns : goal.returns
 unfolding bytes
-returns c = put_is c.args.output.now c.copy-from-slice.new.self c.args.at c.args.x (c.copy-from-slice.ensures.after ∙ c.to-bytes.ensures.value)
+returns c = put_is c.args.output.now c.copy_from_slice.new.self c.args.at c.args.x (c.copy_from_slice.ensures.after ∙ c.to_bytes.ensures.value)

@@ -13,6 +13,6 @@ returns g c =
     let T : Block = c.args.tweak in
     let G : List Block → Block = g.H.BlockHash.hash c.args.g.now c.args.key in
     let whole : length tail % 16 ≡ 0 = omega arith in
-    let list = c.put-list.ensures ∙ ap (λ (l : List ℕ). tail ++ l) c.to-bytes.ensures.value in
+    let list = c.put_list.ensures ∙ ap (λ (l : List ℕ). tail ++ l) c.to_bytes.ensures.value in
     c.mul.ensures
     ∙ ap (◌⊗◌ c.args.key) (c.call.ensures ∙ ap (λ (l : List ℕ). G (blocks_of l)) list ∙ ap G (blocks_of_push tail T whole))

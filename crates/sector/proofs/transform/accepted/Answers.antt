@@ -13,8 +13,8 @@ returns g c =
     let whole : List ℕ = put_mid 32 (length out - 32) out back in
     let long : 32 ≤ length out = omega arith in
     let size : length back ≡ length out - 32 = c.count.auto.output ∙ length-take-le (length out - 32) (drop 32 out) (omega (arith, length-drop 32 out)) in
-    accepted_is c.args.direction F (g.H.BlockHash.hash c.args.g.now) c.args.tweak text out back (take (length whole - 32) (drop 32 whole)) c.put-front.new.output
-    c.hash-key-key.result c.tail-hash-h.result c.tail-hash-h-2.result c.add.result c.get-front.result c.to-middle-middle.result c.from-middle.result
+    accepted_is c.args.direction F (g.H.BlockHash.hash c.args.g.now) c.args.tweak text out back (take (length whole - 32) (drop 32 whole)) c.put_front.new.output
+    c.hash_key-key.result c.tail_hash-h.result c.tail_hash-h-2.result c.add.result c.get_front.result c.to_middle-middle.result c.from_middle.result
     long size (take_rest whole 32 ∙ written out back long size)
-    c.hash-key-key.ensures c.tail-hash-h.ensures c.get-front.ensures c.to-middle-middle.ensures c.add.ensures c.count.ensures
-    c.tail-hash-h-2.ensures c.from-middle.ensures c.put-front.ensures
+    c.hash_key-key.ensures c.tail_hash-h.ensures c.get_front.ensures c.to_middle-middle.ensures c.add.ensures c.count.ensures
+    c.tail_hash-h-2.ensures c.from_middle.ensures c.put_front.ensures

@@ -17,7 +17,7 @@ returns g c =
     let r = c.settled.result in
     let done = c.transform-answer.result in
     let answer = c.settled.ensures ∙ c.transform-answer.ensures.answer in
-    let output = c.transform-answer.ensures.output ∙ ap (λ (x : Block). cond (is_ok done) (enciphered_bytes F G x text) before) c.tweak-block-tweak.ensures
+    let output = c.transform-answer.ensures.output ∙ ap (λ (x : Block). cond (is_ok done) (enciphered_bytes F G x text) before) c.tweak_block-tweak.ensures
     ∙ ap (λ (q : Result (Unit {0}) Refusal). cond (is_ok q) (enciphered_bytes F G T text) before) (sym c.settled.ensures) in
     record {
       answer = answer;

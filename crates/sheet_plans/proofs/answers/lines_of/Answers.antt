@@ -10,7 +10,7 @@ loop-note-preserved c =
     let i = c.loop-note.note-index in
     let notes = c.args.notes.now in
     let f = λ (n : Note). finished n c.args.calls.now in
-    c.in-ok-push.ensures.items
+    c.in_ok-push.ensures.items
     ∙ ap (λ (v : List Line). v ++ c.finished.result ∷ []) c.loop-note.invariant
     ∙ ap (λ (x : Line). map f (take i notes) ++ x ∷ []) c.finished.ensures
     ∙ sym (map_more f notes i _ (omega arith))

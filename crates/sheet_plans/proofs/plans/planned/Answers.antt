@@ -21,13 +21,13 @@ loop-record-preserved c =
     let notes : List Note = vec_items c.loop-record.notes in
     let es : List Entry = vec_items c.loop-record.calls in
     let l : c.len.result ≡ length notes = search rules in
-    let k = c.in-ok-call.ensures in
+    let k = c.in_ok-call.ensures in
     let n : c.noted.result ≡ note_of (length notes) r d (call_at (puts_of d) (length es)) =
-    c.noted.ensures ∙ ap (λ (z : ℕ). note_of z r d c.in-ok-call.call) l ∙ ap (λ (z : Option ℕ). note_of (length notes) r d z) k.1 in
+    c.noted.ensures ∙ ap (λ (z : ℕ). note_of z r d c.in_ok-call.call) l ∙ ap (λ (z : Option ℕ). note_of (length notes) r d z) k.1 in
     subst (λ (xs : List Said). Planned xs c.turn-effect.new.self (vec_items c.push.new.self) (vec_items c.put.new.calls))
     (sym (map_more said records i none (omega arith)))
     (plan_more rs c.loop-record.run c.turn-effect.new.self notes (vec_items c.push.new.self) es (vec_items c.put.new.calls) r d
-    c.loop-record.invariant c.turn-effect.ensures k.0 (c.in-ok-push.ensures.items ∙ ap (λ (x : Note). notes ++ x ∷ []) n))
+    c.loop-record.invariant c.turn-effect.ensures k.0 (c.in_ok-push.ensures.items ∙ ap (λ (x : Note). notes ++ x ∷ []) n))
 
 pub returns : goal.returns
 returns c =

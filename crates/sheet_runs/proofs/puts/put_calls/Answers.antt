@@ -10,8 +10,8 @@ pub returns : goal.returns
 returns c =
     let g = c.args.setting in
     let es = c.args.calls.now in
-    let es' = c.put-on.new.calls in
+    let es' = c.put_on.new.calls in
     let F = keyed_of c.keyed-function.result in
-    let z : vec_items c.in-ok-bytes.bytes ≡ replicate (g.count * g.length) 0 = search rules in
+    let z : vec_items c.in_ok-bytes.bytes ≡ replicate (g.count * g.length) 0 = search rules in
     answered_fresh g F es es' c.keyed-function.ensures c.requires
-    (subst (λ (all : List ℕ). AnsweredBy (store_of F (hash_of g.hash) all g.count g.length) es es') (c.as-mut-slice.ensures.value ∙ z) c.put-on.ensures)
+    (subst (λ (all : List ℕ). AnsweredBy (store_of F (hash_of g.hash) all g.count g.length) es es') (c.as_mut_slice.ensures.value ∙ z) c.put_on.ensures)

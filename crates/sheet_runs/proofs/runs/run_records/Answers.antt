@@ -11,16 +11,16 @@ use Rattle.sheet_runs.proofs.Sanity.{sane_after}
 use Rattle.sheet_runs.proofs.Finishing.{lines_are}
 use Rattle.sheet_runs.proofs.runs.run_records.Goals as goal
 
-pub put-all-requires : goal.put-all-requires
-put-all-requires c = subst Sane (sym c.in-ok-plan.ensures.state) (sane_after Waiting (map said c.args.records.now) tt)
+pub put_all-requires : goal.put_all-requires
+put_all-requires c = subst Sane (sym c.in_ok-plan.ensures.state) (sane_after Waiting (map said c.args.records.now) tt)
 
 pub returns : goal.returns
 returns c =
     let rs = map said c.args.records.now in
-    let plan = c.in-ok-plan.plan in
+    let plan = c.in_ok-plan.plan in
     let notes : List Note = vec_items plan.notes in
-    let es' : List Entry = vec_items c.put-all.new.calls in
-    IfOk-weaker c.lines-of.result (λ v. vec_items v ≡ map (λ (n : Note). finished n c.as-slice-2.result.now) c.as-slice.result.now) (λ v. LinesAre rs false (vec_items v))
-    (λ v e. lines_are rs plan.run notes (vec_items plan.calls) es' (vec_items v) c.in-ok-plan.ensures c.in-ok-put-all.ensures
-    (e ∙ ap (λ (xs : List Entry). map (λ (n : Note). finished n xs) c.as-slice.result.now) c.as-slice-2.ensures.value ∙ ap (map (λ (n : Note). finished n es')) c.as-slice.ensures.value))
-    c.lines-of.ensures
+    let es' : List Entry = vec_items c.put_all.new.calls in
+    IfOk-weaker c.lines_of.result (λ v. vec_items v ≡ map (λ (n : Note). finished n c.as_slice-2.result.now) c.as_slice.result.now) (λ v. LinesAre rs false (vec_items v))
+    (λ v e. lines_are rs plan.run notes (vec_items plan.calls) es' (vec_items v) c.in_ok-plan.ensures c.in_ok-put_all.ensures
+    (e ∙ ap (λ (xs : List Entry). map (λ (n : Note). finished n xs) c.as_slice.result.now) c.as_slice-2.ensures.value ∙ ap (map (λ (n : Note). finished n es')) c.as_slice.ensures.value))
+    c.lines_of.ensures

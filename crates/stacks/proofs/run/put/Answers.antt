@@ -14,10 +14,10 @@ returns-in-Read g c =
     let b = c.in-Read.buffer in
     let ys = c.read.new.buffer in
     let after = take b.len (ys ++ drop (length ys) b.items) in
-    let full : after ≡ ys = take_at ys (drop (length ys) b.items) b.len (c.read.auto.buffer ∙ c.as-mut-slice.ensures.len) in
+    let full : after ≡ ys = take_at ys (drop (length ys) b.items) b.len (c.read.auto.buffer ∙ c.as_mut_slice.ensures.len) in
     record {
       step = subst (λ (q : Call). Step p p (ask q) (ask_read n after) c.told.result) (sym c.in-Read.is)
-          (subst (λ (xs : List ℕ). Step p p (ask_read n xs) (ask_read n after) c.told.result) c.as-mut-slice.ensures.value
+          (subst (λ (xs : List ℕ). Step p p (ask_read n xs) (ask_read n after) c.told.result) c.as_mut_slice.ensures.value
           (c.told.ensures ∙ ap noted c.read.ensures.answer, ap (ask_read n) (full ∙ c.read.ensures.filled), refl));
       octets = subst (λ (q : Call). Octets (ask q)) (sym c.in-Read.is) tt;
     }
@@ -27,9 +27,9 @@ returns-in-Write g c =
     let n = c.in-Write.n in
     let v = c.in-Write.buffer in
     let p = g.P.SectorStore.view c.args.stack.now in
-    let p' = g.P.SectorStore.view c.put-write.new.stack in
+    let p' = g.P.SectorStore.view c.put_write.new.stack in
     record {
-      step = subst (λ (q : Call). Step p p' (ask q) (ask_write n (vec_items v)) c.put-write.result) (sym c.in-Write.is)
-          (subst (λ (xs : List ℕ). Step p p' (ask_write n xs) (ask_write n xs) c.put-write.result) c.as-slice.ensures.value c.put-write.ensures.step);
-      octets = subst (λ (q : Call). Octets (ask q)) (sym c.in-Write.is) (subst (AllBelowBase 256) c.as-slice.ensures.value c.put-write.ensures.octets);
+      step = subst (λ (q : Call). Step p p' (ask q) (ask_write n (vec_items v)) c.put_write.result) (sym c.in-Write.is)
+          (subst (λ (xs : List ℕ). Step p p' (ask_write n xs) (ask_write n xs) c.put_write.result) c.as_slice.ensures.value c.put_write.ensures.step);
+      octets = subst (λ (q : Call). Octets (ask q)) (sym c.in-Write.is) (subst (AllBelowBase 256) c.as_slice.ensures.value c.put_write.ensures.octets);
     }

@@ -15,9 +15,9 @@ pub returns-in-97-to-102 : goal.returns-in-97-to-102
 unfolding digit
 returns-in-97-to-102 c = grind (arith, nat_tests)
 
-pub returns-in-default : goal.returns-in-default
+pub returns-in_default : goal.returns-in_default
 unfolding digit
-returns-in-default c = grind (arith, nat_tests)
+returns-in_default c = grind (arith, nat_tests)
 
 pub returns-in-default·2 : goal.returns-in-default·2
 unfolding digit

@@ -5,4 +5,4 @@ use Rattle.text.proofs.hex.hex_block.Goals as goal
 
 pub returns : goal.returns
 unfolding hex_block
-returns c = c.new.ensures ∙ ap block c.number-of.ensures
+returns c = c.new.ensures ∙ ap block c.number_of.ensures

@@ -12,7 +12,7 @@ pub overflow-add-value : goal.overflow-add-value
 overflow-add-value c =
     let t = c.args.digits.now in
     let i = c.loop-c.c-index in
-    let d : c.from-in-loop-c.result ≡ digit_value (get_or t i 0) = c.from-in-loop-c.ensures ∙ c.unwrap-or.ensures ∙ ap (λ o. unwrap_or o 0) c.digit.ensures in
+    let d : c.from-in-loop-c.result ≡ digit_value (get_or t i 0) = c.from-in-loop-c.ensures ∙ c.unwrap_or.ensures ∙ ap (λ o. unwrap_or o 0) c.digit.ensures in
     omega (
       arith,
       digit_lt (get_or t i 0),
@@ -23,7 +23,7 @@ pub loop-c-preserved : goal.loop-c-preserved
 loop-c-preserved c =
     let t = c.args.digits.now in
     let i = c.loop-c.c-index in
-    let d : c.from-in-loop-c.result ≡ digit_value (get_or t i 0) = c.from-in-loop-c.ensures ∙ c.unwrap-or.ensures ∙ ap (λ o. unwrap_or o 0) c.digit.ensures in
+    let d : c.from-in-loop-c.result ≡ digit_value (get_or t i 0) = c.from-in-loop-c.ensures ∙ c.unwrap_or.ensures ∙ ap (λ o. unwrap_or o 0) c.digit.ensures in
     ap₂ ◌+◌ (ap₂ ◌*◌ c.loop-c.invariant c.from.ensures) d ∙ sym (number_digit c.args.base t i c.loop-c-test.true)
 
 pub returns : goal.returns

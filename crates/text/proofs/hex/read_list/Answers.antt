@@ -8,14 +8,14 @@ returns-then-same c =
     let w = c.args.word.now in
     ap (λ b. cond b (Some []) (cond (some_blocks w) (Some (hex_blocks_of w)) None)) (sym c.if-same.true ∙ c.same.ensures)
 
-pub returns-then-is-blocks : goal.returns-then-is-blocks
+pub returns-then-is_blocks : goal.returns-then-is_blocks
 unfolding list_word
-returns-then-is-blocks c =
+returns-then-is_blocks c =
     let w = c.args.word.now in
-    ap₂ (λ (a b : Bool). cond a (Some []) (cond b (Some (hex_blocks_of w)) None)) (sym c.if-same.false ∙ c.same.ensures) (sym c.if-is-blocks.true ∙ c.is-blocks.ensures)
+    ap₂ (λ (a b : Bool). cond a (Some []) (cond b (Some (hex_blocks_of w)) None)) (sym c.if-same.false ∙ c.same.ensures) (sym c.if-is_blocks.true ∙ c.is_blocks.ensures)
 
-pub returns-else-is-blocks : goal.returns-else-is-blocks
+pub returns-else-is_blocks : goal.returns-else-is_blocks
 unfolding list_word
-returns-else-is-blocks c =
+returns-else-is_blocks c =
     let w = c.args.word.now in
-    ap₂ (λ (a b : Bool). cond a (Some []) (cond b (Some (hex_blocks_of w)) None)) (sym c.if-same.false ∙ c.same.ensures) (sym c.if-is-blocks.false ∙ c.is-blocks.ensures)
+    ap₂ (λ (a b : Bool). cond a (Some []) (cond b (Some (hex_blocks_of w)) None)) (sym c.if-same.false ∙ c.same.ensures) (sym c.if-is_blocks.false ∙ c.is_blocks.ensures)

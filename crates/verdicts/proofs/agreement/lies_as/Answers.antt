@@ -12,7 +12,7 @@ same_block x y e = sym (block_whole x) ∙ ap block e ∙ block_whole y
 pub returns : goal.returns
 returns c =
     let x = c.args.x in
-    let y = c.from-bytes.result in (
-      (λ t. same_block x y (eqb-true x.value y.value t) ∙ c.from-bytes.ensures),
-      (λ e. eq-eqb x.value y.value (ap (λ (b : Block). b.value) (e ∙ sym c.from-bytes.ensures))),
+    let y = c.from_bytes.result in (
+      (λ t. same_block x y (eqb-true x.value y.value t) ∙ c.from_bytes.ensures),
+      (λ e. eq-eqb x.value y.value (ap (λ (b : Block). b.value) (e ∙ sym c.from_bytes.ensures))),
     )

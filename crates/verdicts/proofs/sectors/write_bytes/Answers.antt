@@ -15,7 +15,7 @@ loop-i-preserved g c =
     let i = c.loop-i.i in
     let b = c.unwrap-x.result in
     bytes_more xs i b c.loop-i.output _ (omega arith) (omega arith) (nth_found xs i b (sym c.get.ensures ∙ c.unwrap-x.ensures))
-    (put_is c.loop-i.output c.copy-from-slice.new.self (16 * i) b (c.copy-from-slice.ensures.after ∙ c.to-bytes.ensures.value))
+    (put_is c.loop-i.output c.copy_from_slice.new.self (16 * i) b (c.copy_from_slice.ensures.after ∙ c.to_bytes.ensures.value))
     ∙ c.loop-i.invariant
 
 pub returns : goal.returns

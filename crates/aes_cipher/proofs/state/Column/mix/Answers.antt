@@ -10,7 +10,7 @@ unfolding mix_column
 returns c =
     let with_row = dot byte_operations in
     c.of.ensures
-    ∙ each (c.sum-of-products-b0.ensures ∙ ap₂ with_row c.coefficients.ensures c.elements-column.ensures)
-    (c.sum-of-products-b1.ensures ∙ ap₂ with_row c.coefficients-2.ensures c.elements-column.ensures)
-    (c.sum-of-products-b2.ensures ∙ ap₂ with_row c.coefficients-3.ensures c.elements-column.ensures)
-    (c.sum-of-products-b3.ensures ∙ ap₂ with_row c.coefficients-4.ensures c.elements-column.ensures)
+    ∙ each (c.sum_of_products-b0.ensures ∙ ap₂ with_row c.coefficients.ensures c.elements-column.ensures)
+    (c.sum_of_products-b1.ensures ∙ ap₂ with_row c.coefficients-2.ensures c.elements-column.ensures)
+    (c.sum_of_products-b2.ensures ∙ ap₂ with_row c.coefficients-3.ensures c.elements-column.ensures)
+    (c.sum_of_products-b3.ensures ∙ ap₂ with_row c.coefficients-4.ensures c.elements-column.ensures)

@@ -6,10 +6,10 @@ use Rattle.aes_cipher.proofs.Words.{each}
 use Rattle.aes_cipher.proofs.state.Column.of_round.Goals as goal
 
 pub unwrap-requires : goal.unwrap-requires
-unwrap-requires c = ap is_some (c.round-constant.ensures ∙ constant_some c.args.j c.requires.from c.requires.to)
+unwrap-requires c = ap is_some (c.round_constant.ensures ∙ constant_some c.args.j c.requires.from c.requires.to)
 
 pub returns : goal.returns
 unfolding rcon
 returns c =
     each (byte_whole c.unwrap.result
-    ∙ constant_is c.args.j c.unwrap.result c.requires.from c.requires.to (sym c.round-constant.ensures ∙ c.unwrap.ensures)) refl refl refl
+    ∙ constant_is c.args.j c.unwrap.result c.requires.from c.requires.to (sym c.round_constant.ensures ∙ c.unwrap.ensures)) refl refl refl

@@ -12,7 +12,7 @@ returns c =
     let b : (r : ℕ) (d : Byte) → r < length c.elements.result → get_or c.elements.result r d ≡ at w r =
     λ r d h. read c.elements.result w r d c.elements.ensures h in
     c.of.ensures
-    ∙ each (c.sub-byte.ensures.value ∙ ap sub_byte (b 0 c.index-elements-0.result (omega arith)))
-    (c.sub-byte-2.ensures.value ∙ ap sub_byte (b 1 c.index-elements-1.result (omega arith)))
-    (c.sub-byte-3.ensures.value ∙ ap sub_byte (b 2 c.index-elements-2.result (omega arith)))
-    (c.sub-byte-4.ensures.value ∙ ap sub_byte (b 3 c.index-elements-3.result (omega arith)))
+    ∙ each (c.sub_byte.ensures.value ∙ ap sub_byte (b 0 c.index-elements-0.result (omega arith)))
+    (c.sub_byte-2.ensures.value ∙ ap sub_byte (b 1 c.index-elements-1.result (omega arith)))
+    (c.sub_byte-3.ensures.value ∙ ap sub_byte (b 2 c.index-elements-2.result (omega arith)))
+    (c.sub_byte-4.ensures.value ∙ ap sub_byte (b 3 c.index-elements-3.result (omega arith)))

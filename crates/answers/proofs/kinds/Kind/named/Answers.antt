@@ -4,4 +4,4 @@ use Rattle.answers.proofs.kinds.Kind.named.Goals as goal
 
 pub returns : goal.returns
 unfolding kind_named
-returns c = record { value = c.first-named.ensures; names = names c.args.word.now c.first-named.result c.first-named.ensures }
+returns c = record { value = c.first_named.ensures; names = names c.args.word.now c.first_named.result c.first_named.ensures }

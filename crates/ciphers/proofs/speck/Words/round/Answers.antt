@@ -6,4 +6,4 @@ use Rattle.ciphers.proofs.speck.Words.round.Goals as goal
 pub returns : goal.returns
 unfolding rotated_left rotated_right
 returns c =
-    round_is (pair c.args.self.now) c.args.key c.rotate-right.result c.rotate-left.result c.rotate-right.ensures c.rotate-left.ensures
+    round_is (pair c.args.self.now) c.args.key c.rotate_right.result c.rotate_left.result c.rotate_right.ensures c.rotate_left.ensures

@@ -6,4 +6,4 @@ use Rattle.elements.proofs.bits.U8Word.double.Goals as goal
 pub returns : goal.returns
 returns c =
     let x = c.args.self in
-    ap (bit_xor (x * 2 % 2 ^ 8)) c.last-picks.ensures ∙ sym (double_by 8 27 x (x / 2 ^ 7 % 2) (omega arith))
+    ap (bit_xor (x * 2 % 2 ^ 8)) c.last_picks.ensures ∙ sym (double_by 8 27 x (x / 2 ^ 7 % 2) (omega arith))

@@ -4,4 +4,4 @@ use Rattle.elements.proofs.Endians.{sixteen}
 use Rattle.elements.proofs.values.Block.from_bytes.Goals as goal
 
 pub returns : goal.returns
-returns c = c.new.ensures ∙ ap block (c.from-be-bytes.ensures ∙ sixteen c.args.bytes (omega arith))
+returns c = c.new.ensures ∙ ap block (c.from_be_bytes.ensures ∙ sixteen c.args.bytes (omega arith))

@@ -35,5 +35,5 @@ returns-in-Ok g c =
     let shown : c.read.new.buffer ≡ bytes = c.read.ensures.filled ∙ ap (λ v. filled v (take (length old - 0) (drop 0 c.args.scratch.now)) bytes) (e ∙ none) in
     record {
       answer = ap outcome (sym none);
-      filled = c.decipher-sector.ensures ∙ ap dec shown ∙ ap (λ v. filled v old (dec bytes)) (sym none);
+      filled = c.decipher_sector.ensures ∙ ap dec shown ∙ ap (λ v. filled v old (dec bytes)) (sym none);
     }

@@ -10,12 +10,12 @@ returns g c =
     let p = g.S.SectorStore.view c.args.self.now.below in
     let n = c.args.n in
     let xs = c.args.buffer.now in
-    let out = c.encipher-sector.new.output in
+    let out = c.encipher_sector.new.output in
     let fits : length xs ≤ length c.args.scratch.now = omega (arith, (g.S.SectorStore.sound c.args.self.now.below).short) in
-    let long = c.encipher-sector.auto.output ∙ part_long c.args.scratch.now (length xs) fits in
+    let long = c.encipher_sector.auto.output ∙ part_long c.args.scratch.now (length xs) fits in
     let e = refusal_in (store p) n (length out) (long ∙ c.requires.sized) c.requires.inside in
     record {
       answer = c.write.ensures.answer ∙ ap outcome e;
-      after = c.write.ensures.after ∙ ap (λ v. after_write v p n out) e ∙ ap (after_write (failure ((store p).failed n)) p n) c.encipher-sector.ensures;
+      after = c.write.ensures.after ∙ ap (λ v. after_write v p n out) e ∙ ap (after_write (failure ((store p).failed n)) p n) c.encipher_sector.ensures;
       same = (refl, refl);
     }

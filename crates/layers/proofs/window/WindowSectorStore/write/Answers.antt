@@ -6,13 +6,13 @@ use Rattle.stores.proofs.Answered.{turned_away, admitted, write_refused}
 use Rattle.layers.proofs.Windowed.{window_refusal, window_few, window_after}
 use Rattle.layers.proofs.window.WindowSectorStore.write.Goals as goal
 
-pub returns-in-err-admit : goal.returns-in-err-admit
-returns-in-err-admit g c =
+pub returns-in_err-admit : goal.returns-in_err-admit
+returns-in_err-admit g c =
     let w = c.args.self.now in
     let p = over (window w.base w.count) (g.S.SectorStore.view w.below) in
     let n = c.args.n in
     let xs = c.args.buffer.now in
-    let e = turned_away (store p) n (length xs) _ c.dimensions.ensures _ c.in-err-admit.ensures in
+    let e = turned_away (store p) n (length xs) _ c.dimensions.ensures _ c.in_err-admit.ensures in
     let q = err_from_is_err_and c.from-residual.result c.from-residual.ensures.1 in
     record { answer = q.1 ∙ ap Err q.2 ∙ ap outcome (sym e); after = write_refused p n xs _ _ e }
 
@@ -22,7 +22,7 @@ overflow-add-self g c =
     let p = over (window w.base w.count) (g.S.SectorStore.view w.below) in
     let n = c.args.n in
     let xs = c.args.buffer.now in
-    let fit = admitted (store p) n (length xs) _ c.dimensions.ensures _ c.in-ok-admit.ensures in
+    let fit = admitted (store p) n (length xs) _ c.dimensions.ensures _ c.in_ok-admit.ensures in
     omega (arith, window_few (g.S.SectorStore.view w.below) w.base w.count n fit.1 (g.S.SectorStore.sound w.below))
 
 pub returns : goal.returns
@@ -32,7 +32,7 @@ returns g c =
     let n = c.args.n in
     let xs = c.args.buffer.now in
     let q = g.S.SectorStore.view w.below in
-    let fit = admitted (store p) n (length xs) _ c.dimensions.ensures _ c.in-ok-admit.ensures in
+    let fit = admitted (store p) n (length xs) _ c.dimensions.ensures _ c.in_ok-admit.ensures in
     let e = window_refusal q w.base w.count n fit.1 (length xs) fit.0 in
     record {
       answer = c.write.ensures.answer ∙ ap outcome (sym e);

@@ -10,7 +10,7 @@ loop-byte-init g c plain = record { wrote = writes_in_calls_nil g.W.Write.write_
 pub loop-byte-preserved : goal.loop-byte-preserved
 loop-byte-preserved g c plain =
     byte_put g.W.Write.write_str_gives _ _ _ capital_digit c.args.self.now.bytes.now c.loop-byte.byte-index c.loop-byte-test.true
-    (c.loop-byte.invariant plain) (c.in-ok-write.ensures.writes (c.loop-byte.invariant plain).plain refl)
+    (c.loop-byte.invariant plain) (c.in_ok-write.ensures.writes (c.loop-byte.invariant plain).plain refl)
 
 pub returns-clause-writes : goal.returns-clause-writes
 returns-clause-writes g c plain ok =

@@ -7,23 +7,23 @@ use Rattle.stores.proofs.Answered.{turned_away, admitted, write_refused}
 use Rattle.media.proofs.Lying.{flat_place, flat_answered, flat_write}
 use Rattle.media.proofs.flat.FlatMediumSectorStore.write.Goals as goal
 
-pub returns-in-err-admit : goal.returns-in-err-admit
-returns-in-err-admit c =
+pub returns-in_err-admit : goal.returns-in_err-admit
+returns-in_err-admit c =
     let s = c.args.self.now in
     let m = flat_medium s.bytes.now s.count s.length in
     let n = c.args.n in
     let xs = c.args.buffer.now in
-    let e = turned_away m n (length xs) _ c.dimensions.ensures _ c.in-err-admit.ensures in
+    let e = turned_away m n (length xs) _ c.dimensions.ensures _ c.in_err-admit.ensures in
     let p = err_from_is_err_and c.from-residual.result c.from-residual.ensures.1 in
     record { answer = p.1 ∙ ap Err p.2 ∙ ap outcome (sym e); after = write_refused (alone m) n xs _ _ e }
 
-pub put-place-requires : goal.put-place-requires
-put-place-requires c =
+pub put_place-requires : goal.put_place-requires
+put_place-requires c =
     let s = c.args.self.now in
     let m = flat_medium s.bytes.now s.count s.length in
     let n = c.args.n in
     let xs = c.args.buffer.now in
-    let fit = admitted m n (length xs) _ c.dimensions.ensures _ c.in-ok-admit.ensures in
+    let fit = admitted m n (length xs) _ c.dimensions.ensures _ c.in_ok-admit.ensures in
     flat_place s.bytes.now s.count s.length n fit.1 (length xs) fit.0
 
 pub returns : goal.returns
@@ -32,8 +32,8 @@ returns c =
     let m = flat_medium s.bytes.now s.count s.length in
     let n = c.args.n in
     let xs = c.args.buffer.now in
-    let fit = admitted m n (length xs) _ c.dimensions.ensures _ c.in-ok-admit.ensures in
+    let fit = admitted m n (length xs) _ c.dimensions.ensures _ c.in_ok-admit.ensures in
     record {
       answer = flat_answered s.bytes.now s.count s.length n fit.1 (length xs) fit.0;
-      after = flat_write s.bytes.now s.count s.length n fit.1 xs _ fit.0 c.put-place.ensures;
+      after = flat_write s.bytes.now s.count s.length n fit.1 xs _ fit.0 c.put_place.ensures;
     }

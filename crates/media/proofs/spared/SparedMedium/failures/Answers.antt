@@ -20,5 +20,5 @@ returns c =
     let bad = s.bad.now in
     let fs = drop s.spares bad in
     let k : length bad - c.min-from.result ≡ length fs = omega (arith, length-drop s.spares bad) in
-    let copied : c.copy-from-slice.new.self ≡ fs = c.copy-from-slice.ensures.after ∙ rest_of bad s.spares c.min-from.result c.min-from.ensures in
-    (fs, failures_of s.bytes.now s.count s.length s.spares s.bad.now (sym c.sound.ensures ∙ c.if-not-sound.false), (k, rest_kept c.copy-from-slice.new.self fs c.args.buffer.now (length bad - c.min-from.result) copied k))
+    let copied : c.copy_from_slice.new.self ≡ fs = c.copy_from_slice.ensures.after ∙ rest_of bad s.spares c.min-from.result c.min-from.ensures in
+    (fs, failures_of s.bytes.now s.count s.length s.spares s.bad.now (sym c.sound.ensures ∙ c.if-not-sound.false), (k, rest_kept c.copy_from_slice.new.self fs c.args.buffer.now (length bad - c.min-from.result) copied k))

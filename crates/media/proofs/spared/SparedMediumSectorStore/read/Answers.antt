@@ -7,13 +7,13 @@ use Rattle.media.proofs.Spares.{in_own, in_spare, in_none}
 use Rattle.media.proofs.Sparing.{lost_refusal, place_room, answered, read_at}
 use Rattle.media.proofs.spared.SparedMediumSectorStore.read.Goals as goal
 
-pub returns-in-err-admit : goal.returns-in-err-admit
-returns-in-err-admit c =
+pub returns-in_err-admit : goal.returns-in_err-admit
+returns-in_err-admit c =
     let s = c.args.self.now in
     let m = spared_medium s.bytes.now s.count s.length s.spares s.bad.now in
     let n = c.args.n in
     let xs = c.args.buffer.now in
-    let e = turned_away m n (length xs) _ c.dimensions.ensures _ c.in-err-admit.ensures in
+    let e = turned_away m n (length xs) _ c.dimensions.ensures _ c.in_err-admit.ensures in
     let p = err_from_is_err_and c.from-residual.result c.from-residual.ensures.1 in
     record { answer = p.1 ∙ ap Err p.2 ∙ ap outcome (sym e); filled = read_refused m n xs _ _ e }
 
@@ -23,28 +23,28 @@ returns-then-place-self c =
     let m = spared_medium s.bytes.now s.count s.length s.spares s.bad.now in
     let n = c.args.n in
     let xs = c.args.buffer.now in
-    let fit = admitted m n (length xs) _ c.dimensions.ensures _ c.in-ok-admit.ensures in
+    let fit = admitted m n (length xs) _ c.dimensions.ensures _ c.in_ok-admit.ensures in
     let gone = in_none s.count s.spares n (position s.bad.now n) c.in-Some.place c.in-Some.ensures c.if-place-self.true in
     let e = lost_refusal s.bytes.now s.count s.length s.spares s.bad.now n fit.1 gone (length xs) fit.0 in
     record { answer = ap Err c.failed.ensures ∙ ap outcome (sym e); filled = read_refused m n xs _ _ e }
 
-pub get-place-requires : goal.get-place-requires
-get-place-requires c =
+pub get_place-requires : goal.get_place-requires
+get_place-requires c =
     let s = c.args.self.now in
     let m = spared_medium s.bytes.now s.count s.length s.spares s.bad.now in
     let n = c.args.n in
     let xs = c.args.buffer.now in
-    let fit = admitted m n (length xs) _ c.dimensions.ensures _ c.in-ok-admit.ensures in
+    let fit = admitted m n (length xs) _ c.dimensions.ensures _ c.in_ok-admit.ensures in
     let there = in_own s.count s.spares n (position s.bad.now n) c.in-None.ensures in
     place_room s.bytes.now s.count s.length s.spares s.bad.now n fit.1 n there (length xs) fit.0
 
-pub get-place-requires-in-Some : goal.get-place-requires-in-Some
-get-place-requires-in-Some c =
+pub get_place-requires-in-Some : goal.get_place-requires-in-Some
+get_place-requires-in-Some c =
     let s = c.args.self.now in
     let m = spared_medium s.bytes.now s.count s.length s.spares s.bad.now in
     let n = c.args.n in
     let xs = c.args.buffer.now in
-    let fit = admitted m n (length xs) _ c.dimensions.ensures _ c.in-ok-admit.ensures in
+    let fit = admitted m n (length xs) _ c.dimensions.ensures _ c.in_ok-admit.ensures in
     let p = c.in-Some.place in
     let there = in_spare s.count s.spares n (position s.bad.now n) p c.in-Some.ensures c.if-place-self.false in
     place_room s.bytes.now s.count s.length s.spares s.bad.now n fit.1 p there (length xs) fit.0
@@ -55,11 +55,11 @@ returns-in-None c =
     let m = spared_medium s.bytes.now s.count s.length s.spares s.bad.now in
     let n = c.args.n in
     let xs = c.args.buffer.now in
-    let fit = admitted m n (length xs) _ c.dimensions.ensures _ c.in-ok-admit.ensures in
+    let fit = admitted m n (length xs) _ c.dimensions.ensures _ c.in_ok-admit.ensures in
     let there = in_own s.count s.spares n (position s.bad.now n) c.in-None.ensures in
     record {
       answer = answered s.bytes.now s.count s.length s.spares s.bad.now n fit.1 n there (length xs) fit.0;
-      filled = read_at s.bytes.now s.count s.length s.spares s.bad.now n fit.1 n there xs _ fit.0 c.get-place.ensures;
+      filled = read_at s.bytes.now s.count s.length s.spares s.bad.now n fit.1 n there xs _ fit.0 c.get_place.ensures;
     }
 
 pub returns-else-place-self : goal.returns-else-place-self
@@ -68,10 +68,10 @@ returns-else-place-self c =
     let m = spared_medium s.bytes.now s.count s.length s.spares s.bad.now in
     let n = c.args.n in
     let xs = c.args.buffer.now in
-    let fit = admitted m n (length xs) _ c.dimensions.ensures _ c.in-ok-admit.ensures in
+    let fit = admitted m n (length xs) _ c.dimensions.ensures _ c.in_ok-admit.ensures in
     let p = c.in-Some.place in
     let there = in_spare s.count s.spares n (position s.bad.now n) p c.in-Some.ensures c.if-place-self.false in
     record {
       answer = answered s.bytes.now s.count s.length s.spares s.bad.now n fit.1 p there (length xs) fit.0;
-      filled = read_at s.bytes.now s.count s.length s.spares s.bad.now n fit.1 p there xs _ fit.0 c.get-place-in-Some.ensures;
+      filled = read_at s.bytes.now s.count s.length s.spares s.bad.now n fit.1 p there xs _ fit.0 c.get_place-in-Some.ensures;
     }

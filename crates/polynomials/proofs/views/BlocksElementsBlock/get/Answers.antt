@@ -18,6 +18,6 @@ returns c =
     let i = c.args.i in
     let n : ℕ = length t / 16 in
     let e : (16 * i + 16) - 16 * i ≡ 16 = omega arith in
-    let piece = c.copy-from-slice.ensures.after ∙ ap (λ (k : ℕ). take k (drop (16 * i) t)) e in
-    ap Some (c.from-bytes.ensures ∙ ap (λ l. block (number_from_digits 256 l)) piece ∙ sym (blocks_at n i t (block 0) (omega arith)))
+    let piece = c.copy_from_slice.ensures.after ∙ ap (λ (k : ℕ). take k (drop (16 * i) t)) e in
+    ap Some (c.from_bytes.ensures ∙ ap (λ l. block (number_from_digits 256 l)) piece ∙ sym (blocks_at n i t (block 0) (omega arith)))
     ∙ sym (slice_get-get_or (blocks n t) i (block 0) (omega (arith, blocks_length n t)))

@@ -17,5 +17,5 @@ returns c =
     let i = c.args.i in
     let n : ℕ = length t / 32 in
     let e : (32 * i + 32) - 32 * i ≡ 32 = omega arith in
-    ap Some (c.hex-block.ensures ∙ ap (λ (k : ℕ). hex_block (take k (drop (32 * i) t))) e ∙ sym (blocks_at n i t (block 0) (omega arith)))
+    ap Some (c.hex_block.ensures ∙ ap (λ (k : ℕ). hex_block (take k (drop (32 * i) t))) e ∙ sym (blocks_at n i t (block 0) (omega arith)))
     ∙ sym (slice_get-get_or (hex_blocks n t) i (block 0) (omega (arith, blocks_length n t)))
