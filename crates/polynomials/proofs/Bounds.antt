@@ -1,5 +1,5 @@
 -- The degree of BRW. Assumes nothing.
-use Rattle.std.proofs.Common.{◌≡◌, ℕ, zero, suc, ◌+◌, ◌-◌, ◌*◌, ◌^◌, ◌<◌, ◌≤◌, min, max, List, [], ◌∷◌, length, get_or, take, drop, replicate, Some, None, Option, sym, refl, ap, ◌∙◌, subst, ap₂, arith, pow_pos, pow_mono}
+use Rattle.std.proofs.Common.{◌≡◌, ℕ, zero, suc, ◌+◌, ◌-◌, ◌*◌, ◌^◌, ◌<◌, ◌≤◌, max, List, length, get_or, replicate, Some, None, Option, sym, refl, ap, ◌∙◌, subst, ap₂, arith, pow_pos, pow_mono}
 use Rattle.std.proofs.lemmas.List.{length-replicate, take-replicate, drop-replicate, get_or-replicate}
 use Rattle.elements.specs.Degrees.{number, capped, larger, added}
 use Rattle.elements.specs.Values.{degree, degree_operations}

@@ -30,8 +30,8 @@ impl<'a, E: Copy> Elements<E> for &'a [E] {
 
 // The element at an index that the list reaches.
 pub(crate) fn element<E: Copy, L: Elements<E>>(xs: &L, i: usize) -> E
-    requires { i < length (items xs.now) }
-    ensures { result ≡ slice_index_or (items xs.now) i result }
+    requires { i < length (L.items xs.now) }
+    ensures { result ≡ slice_index_or (L.items xs.now) i result }
 {
     xs.get(i).unwrap()
 }

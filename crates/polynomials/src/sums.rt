@@ -25,8 +25,8 @@ fn horner_step<E: Arithmetic>(key: E, value: E, x: E) -> E
 
 // Horner of `first` and then the elements of `xs` from index `from` on.
 fn horner_part<E: Element, L: Elements<E>>(key: E, first: E, xs: &L, from: usize) -> E
-    requires { from ≤ length (items xs.now) }
-    ensures { result ≡ horner_of E.Arithmetic.operations key (first ∷ drop from (items xs.now)) }
+    requires { from ≤ length (L.items xs.now) }
+    ensures { result ≡ horner_of E.Arithmetic.operations key (first ∷ drop from (L.items xs.now)) }
 {
     let mut value = first;
     for i in from..xs.len() {
@@ -37,7 +37,7 @@ fn horner_part<E: Element, L: Elements<E>>(key: E, first: E, xs: &L, from: usize
 
 // Horner at `key` of the list that `first` begins and `rest` goes on. It makes as many products as `rest` is long.
 pub fn horner_from<E: Element, L: Elements<E>>(key: E, first: E, rest: &L) -> E
-    ensures { result ≡ horner_of E.Arithmetic.operations key (first ∷ items rest.now) }
+    ensures { result ≡ horner_of E.Arithmetic.operations key (first ∷ L.items rest.now) }
 {
     horner_part(key, first, rest, 0)
 }
@@ -45,7 +45,7 @@ pub fn horner_from<E: Element, L: Elements<E>>(key: E, first: E, rest: &L) -> E
 // Horner at `key`: the polynomial with the coefficients `xs`, the highest first. It makes one product less than
 // `xs` is long.
 pub fn horner<E: Element, L: Elements<E>>(key: E, xs: &L) -> E
-    ensures { result ≡ horner_of E.Arithmetic.operations key (items xs.now) }
+    ensures { result ≡ horner_of E.Arithmetic.operations key (L.items xs.now) }
 {
     match xs.get(0) {
         None => E::zero(),
@@ -93,8 +93,8 @@ fn brw_part<E: Arithmetic, L: Elements<E>>(
     requires squares { Squares E.Arithmetic.operations key powers.now }
     requires enough { 3 ≤ to - from → to - from < 2 ^ length powers.now }
     requires forward { from ≤ to }
-    requires within { to ≤ length (items xs.now) }
-    ensures { result ≡ squared_brw E.Arithmetic.operations key (take (to - from) (drop from (items xs.now))) }
+    requires within { to ≤ length (L.items xs.now) }
+    ensures { result ≡ squared_brw E.Arithmetic.operations key (take (to - from) (drop from (L.items xs.now))) }
 {
     let m = to - from;
     if m == 0 {
@@ -121,9 +121,9 @@ fn brw_part<E: Arithmetic, L: Elements<E>>(
 
 // BRW with the powers of the key by repeated squaring. It asks for no law, so that a type that counts can be put in.
 pub fn brw_by_squares<E: Arithmetic, L: Elements<E>>(key: E, powers: &mut [E], xs: &L) -> Option<E>
-    ensures value { result ≡ (if room (length powers.old) (length (items xs.now)) then Some (squared_brw E.Arithmetic.operations key (items xs.now)) else None) }
-    ensures enough { 64 ≤ length powers.old → result ≡ Some (squared_brw E.Arithmetic.operations key (items xs.now)) }
-    ensures powers { powers.new ≡ (if room (length powers.old) (length (items xs.now)) then filled (squared E.Arithmetic.operations key) (levels_of (length (items xs.now))) powers.old else powers.old) }
+    ensures value { result ≡ (if room (length powers.old) (length (L.items xs.now)) then Some (squared_brw E.Arithmetic.operations key (L.items xs.now)) else None) }
+    ensures enough { 64 ≤ length powers.old → result ≡ Some (squared_brw E.Arithmetic.operations key (L.items xs.now)) }
+    ensures powers { powers.new ≡ (if room (length powers.old) (length (L.items xs.now)) then filled (squared E.Arithmetic.operations key) (levels_of (length (L.items xs.now))) powers.old else powers.old) }
 {
     let m = xs.len();
     let n = levels(m);
@@ -138,9 +138,9 @@ pub fn brw_by_squares<E: Arithmetic, L: Elements<E>>(key: E, powers: &mut [E], x
 // 64 places are enough for every list, and with too few places there is no answer. It makes m / 2 products and,
 // from m = 3 on, log2 m squarings (both rounded down).
 pub fn brw<E: Element, L: Elements<E>>(key: E, powers: &mut [E], xs: &L) -> Option<E>
-    ensures value { result ≡ (if room (length powers.old) (length (items xs.now)) then Some (brw_of E.Arithmetic.operations key (items xs.now)) else None) }
-    ensures enough { 64 ≤ length powers.old → result ≡ Some (brw_of E.Arithmetic.operations key (items xs.now)) }
-    ensures powers { powers.new ≡ (if room (length powers.old) (length (items xs.now)) then filled (λ k. power E.Arithmetic.operations key (2 ^ k)) (levels_of (length (items xs.now))) powers.old else powers.old) }
+    ensures value { result ≡ (if room (length powers.old) (length (L.items xs.now)) then Some (brw_of E.Arithmetic.operations key (L.items xs.now)) else None) }
+    ensures enough { 64 ≤ length powers.old → result ≡ Some (brw_of E.Arithmetic.operations key (L.items xs.now)) }
+    ensures powers { powers.new ≡ (if room (length powers.old) (length (L.items xs.now)) then filled (λ k. power E.Arithmetic.operations key (2 ^ k)) (levels_of (length (L.items xs.now))) powers.old else powers.old) }
 {
     brw_by_squares(key, powers, xs)
 }

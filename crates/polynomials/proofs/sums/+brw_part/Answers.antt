@@ -1,6 +1,5 @@
-use Rattle.std.proofs.Common.{◌≡◌, ℕ, ◌-◌, ◌*◌, ◌%◌, ◌^◌, ◌<◌, ◌≤◌, length, take, drop, sym, ap, ◌∙◌, ap₂, arith}
+use Rattle.std.proofs.Common.{◌≡◌, ℕ, ◌-◌, ◌*◌, ◌%◌, ◌^◌, length, take, drop, sym, ap, ◌∙◌, ap₂, arith}
 use Rattle.std.proofs.lemmas.Nat.{one_shl}
-use Rattle.polynomials.specs.Sums.{squared, squared_brw}
 use Rattle.polynomials.proofs.Brw.{none, part_one, part_two, part_three, part_more}
 use Rattle.polynomials.proofs.Logs.{exponent_lt}
 use Rattle.polynomials.proofs.Parts.{part_length}
@@ -55,5 +54,5 @@ returns g t c =
     let is : T ≡ 2 ^ k = one_shl k 64 c.ilog2-k.ensures.bound in
     c.add-2.ensures ∙ ap (λ e. o.sum e c.brw_part-high.result) (c.mul-2.ensures ∙ ap (o.product c.brw_part-low.result) c.add-middle-2.ensures)
     ∙ part_more o c.args.key (g.L.Elements.items c.args.xs.now) c.args.from c.args.to T k c.brw_part-low.result c.element-2.result c.power_at-2.result c.brw_part-high.result
-    (omega arith) (omega arith) is c.ilog2-k.ensures.power_le c.ilog2-k.ensures.next-power-gt
+    (omega arith) (omega arith) is c.ilog2-k.ensures.power_le c.ilog2-k.ensures.next_power_gt
     c.brw_part-low.ensures c.element-2.ensures c.power_at-2.ensures c.brw_part-high.ensures

@@ -1,4 +1,4 @@
-use Rattle.std.proofs.Common.{◌≡◌, cond, length, Some, None, ap, ◌∙◌}
+use Rattle.std.proofs.Common.{cond, length, Some, None, ap, ◌∙◌}
 use Rattle.polynomials.specs.Sums.{levels, room, filled}
 use Rattle.polynomials.proofs.Brw.{squares_do}
 use Rattle.polynomials.proofs.Horner.{squares_are_powers}

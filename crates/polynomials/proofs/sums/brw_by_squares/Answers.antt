@@ -1,4 +1,4 @@
-use Rattle.std.proofs.Common.{◌≡◌, ℕ, ◌-◌, ◌^◌, ◌<◌, ◌≤◌, true, false, cond, leb, ◌++◌, length, take, drop, Some, None, sym, ap, ◌∙◌, subst, ap₂, arith, length-take, take_all, rules}
+use Rattle.std.proofs.Common.{◌≡◌, ℕ, ◌-◌, ◌^◌, ◌<◌, ◌≤◌, true, false, cond, ◌++◌, length, drop, Some, None, sym, ap, ◌∙◌, subst, ap₂, arith, length-take, take_all}
 use Rattle.std.proofs.lemmas.List.{take_at}
 use Rattle.std.proofs.lemmas.Bool.{le-leb, lt-leb}
 use Rattle.polynomials.specs.Sums.{Squares, levels, room, filled, squared, squared_brw}
@@ -11,7 +11,7 @@ returns-then-n-powers g c =
     let o = g.E.Arithmetic.operations in
     let xs = g.L.Elements.items c.args.xs.now in
     let ps = c.args.powers.now in
-    let small : length xs < 2 ^ 64 = omega (arith, c.len-m.ensures, c.len-m.type-inv) in
+    let small : length xs < 2 ^ 64 = omega (arith, c.len-m.ensures, c.len-m.type_inv) in
     let short : room (length ps) (length xs) ≡ false = lt-leb (levels (length xs)) (length ps) (omega (arith, c.levels-n.ensures ∙ ap levels c.len-m.ensures)) in
     record {
       value = sym (ap (λ b. cond b (Some (squared_brw o c.args.key xs)) None) short);

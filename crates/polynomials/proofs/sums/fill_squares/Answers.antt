@@ -1,4 +1,4 @@
-use Rattle.std.proofs.Common.{◌≡◌, length, get_or, set, sym, ◌∙◌, subst, ap₂, arith}
+use Rattle.std.proofs.Common.{get_or, set, ◌∙◌, subst, ap₂, arith}
 use Rattle.std.proofs.lemmas.List.{get_or-set_same}
 use Rattle.polynomials.specs.Sums.{Squares}
 use Rattle.polynomials.proofs.Brw.{squares_none, squares_first, squares_next, squares_all}

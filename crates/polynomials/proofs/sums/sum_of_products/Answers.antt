@@ -1,4 +1,4 @@
-use Rattle.std.proofs.Common.{◌≡◌, ◌+◌, drop, sym, ap, ◌∙◌, arith}
+use Rattle.std.proofs.Common.{◌+◌, drop, sym, ap, ◌∙◌, arith}
 use Rattle.polynomials.specs.Sums.{dot}
 use Rattle.polynomials.proofs.Horner.{dot_next, dot_end}
 use Rattle.polynomials.proofs.sums.sum_of_products.Goals as goal

@@ -23,6 +23,6 @@ returns g c =
       answer = answer;
       output = output;
       inverse = comes_back (deciphered_bytes F G T) (enciphered_bytes F G T) text c.transform-answer.new.output before r (length before) (length c.args.working.now)
-          (inverse.enciphers F G T) c.type-inv.text answer output;
+          (inverse.enciphers F G T) c.type_inv.text answer output;
       working = c.transform-answer.ensures.working;
     }

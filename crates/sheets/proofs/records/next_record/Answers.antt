@@ -18,7 +18,7 @@ returns-then-sheet-from c = (
 
 pub returns-in-Some : goal.returns-in-Some
 returns-in-Some c =
-    let f = found_stands c.args.sheet.now c.args.at c.word-length.result (said c.in-Some.«record») (λ i. (c.type-inv.sheet i).fits)
+    let f = found_stands c.args.sheet.now c.args.at c.word-length.result (said c.in-Some.«record») (λ i. (c.type_inv.sheet i).fits)
     (omega arith) c.word-length.ensures (omega arith) c.in-Some.ensures in
     (omega arith, f.0, f.1)
 
