@@ -1,13 +1,11 @@
 -- Words and columns of four. Assumes nothing.
-use Rattle.std.proofs.Common.{◌≡◌, ℕ, zero, suc, ◌<◌, List, [], ◌∷◌, length, get_or, sym, refl, ap, ◌∙◌, ap₂, arith}
+use Rattle.std.proofs.Common.{◌≡◌, ℕ, zero, suc, ◌<◌, List, [], ◌∷◌, length, get_or, refl, ap, ◌∙◌, arith}
 use Rattle.std.proofs.lemmas.List.{get_or_default}
 use Rattle.std.specs.Int.Digits.{number_from_digits}
 use Rattle.elements.specs.Values.{byte, block}
 use Rattle.elements.specs.declared.values.Block.{Block}
 use Rattle.elements.specs.declared.values.Byte.{Byte}
 use Rattle.aes_rules.specs.Aes.{Word, four, at, word, values, output}
-use Rattle.aes_cipher.specs.Views.{column_word}
-use Rattle.aes_cipher.specs.declared.state.Column.{Column}
 
 -- four by four
 pub each : {A : Type 0} {a b c d e f g h : A} → a ≡ e → b ≡ f → c ≡ g → d ≡ h

@@ -1,6 +1,5 @@
 use Rattle.std.proofs.Common.{◌/◌, ◌%◌, get_or, arith}
-use Rattle.aes_cipher.specs.Views.{blank_row, row_words}
-use Rattle.aes_rules.specs.Aes.{word}
+use Rattle.aes_cipher.specs.Views.{blank_row}
 use Rattle.aes_cipher.proofs.Rows.{word_here, word_of_row}
 use Rattle.aes_cipher.proofs.schedule.word.Goals as goal
 

@@ -1,4 +1,4 @@
-use Rattle.std.proofs.Common.{◌≡◌, ℕ, List, ap, ◌∙◌}
+use Rattle.std.proofs.Common.{ℕ, List, ap, ◌∙◌}
 use Rattle.aes_rules.specs.Aes.{word_at, input}
 use Rattle.aes_cipher.proofs.Words.{each}
 use Rattle.aes_cipher.proofs.state.State.of.Goals as goal
