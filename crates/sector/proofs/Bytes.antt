@@ -1,5 +1,5 @@
 -- Texts as bytes and as blocks. Assumes nothing.
-use Rattle.std.proofs.Common.{◌≡◌, ℕ, zero, suc, ◌+◌, ◌-◌, ◌*◌, ◌/◌, ◌%◌, ◌^◌, ◌<◌, ◌≤◌, List, [], ◌∷◌, ◌++◌, length, take, drop, sym, refl, ap, ◌∙◌, subst, ap₂, mod-eq_of_lt, arith}
+use Rattle.std.proofs.Common.{◌≡◌, ℕ, zero, suc, ◌-◌, ◌*◌, ◌/◌, ◌%◌, ◌^◌, ◌<◌, ◌≤◌, List, [], ◌∷◌, ◌++◌, length, take, drop, sym, refl, ap, ◌∙◌, subst, ap₂, mod-eq_of_lt, arith}
 use Rattle.std.specs.Int.Digits.{number_from_digits, AllBelowBase}
 use Rattle.std.proofs.lemmas.Int.Digits.{number_lt}
 use Rattle.std.proofs.lemmas.List.{take_at, drop_at, take_all, drop-drop, append_assoc, length-append, length-take-le, length-drop, take-append-drop, take-append-le, drop-append-le}
@@ -11,10 +11,9 @@ use Rattle.elements.specs.Instances.{block_whole}
 use Rattle.polynomials.specs.Blocks.{blocks, blocks_of}
 use Rattle.sector.specs.declared.text.Direction.{Direction}
 use Rattle.sector.specs.declared.text.Direction.TheVariants.{Encipher, Decipher}
-use Rattle.sector.specs.declared.text.Front.{Front}
 use Rattle.sector.specs.Inverse.{Inverse}
 use Rattle.sector.specs.Steps.{finished, transformed}
-use Rattle.sector.specs.Texts.{bytes, joined, front_of, text_of, bytes_of, enciphered_bytes, deciphered_bytes, transformed_bytes}
+use Rattle.sector.specs.Texts.{bytes, joined, text_of, bytes_of, enciphered_bytes, deciphered_bytes, transformed_bytes}
 use Rattle.sector.specs.Transform.{Text, enciphered, deciphered}
 use Rattle.sector.proofs.Restores.{opposite, text_restored}
 

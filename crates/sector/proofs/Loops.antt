@@ -1,5 +1,5 @@
 -- One block more in counter mode, and parts that were written. Assumes nothing.
-use Rattle.std.proofs.Common.{◌≡◌, ℕ, zero, suc, ◌+◌, ◌-◌, ◌*◌, ◌/◌, ◌<◌, ◌≤◌, List, [], ◌∷◌, ◌++◌, length, take, drop, sym, refl, ap, ◌∙◌, ap₂, add-one, arith}
+use Rattle.std.proofs.Common.{◌≡◌, ℕ, suc, ◌+◌, ◌-◌, ◌*◌, ◌<◌, ◌≤◌, List, ◌++◌, length, take, drop, sym, ap, ◌∙◌, ap₂, add-one, arith}
 use borrow.Rule.Slice.PartMut.{put_mid}
 use Rattle.std.specs.Int.Digits.{number_from_digits}
 use Rattle.std.proofs.lemmas.List.{drop-drop, take_at, drop_at, append_assoc, append-nil, take_all, drop_all, length-take-le, length-append, length-drop, take_rest}
@@ -10,7 +10,7 @@ use Rattle.sector.specs.declared.text.Direction.{Direction}
 use Rattle.sector.specs.declared.text.Front.{Front}
 use Rattle.sector.specs.Steps.{to_middle, from_middle, finished, transformed}
 use Rattle.sector.specs.Texts.{bytes, joined, front_of, text_of, bytes_of, transformed_bytes}
-use Rattle.sector.specs.Transform.{◌⊕◌, ◌⊗◌, counter_block, counter_mode, hash_key, tail_hash}
+use Rattle.sector.specs.Transform.{◌⊕◌, counter_block, counter_mode, hash_key, tail_hash}
 use Rattle.sector.proofs.Bytes.{length_bytes, blocks_of_joined, transformed_is}
 
 -- a block written at a place, as the checker has it

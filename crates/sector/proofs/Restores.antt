@@ -1,5 +1,5 @@
 -- The transform on blocks and its reverse. Assumes nothing.
-use Rattle.std.proofs.Common.{◌≡◌, ℕ, zero, suc, List, [], ◌∷◌, sym, refl, ap, ◌∙◌, ap₂}
+use Rattle.std.proofs.Common.{◌≡◌, ℕ, suc, List, [], ◌∷◌, refl, ap, ◌∙◌, ap₂}
 use lib.Bits.{xor_self}
 use Rattle.elements.specs.Values.{block}
 use Rattle.elements.specs.declared.values.Block.{Block}

@@ -1,6 +1,6 @@
 -- The sector transform FAST: the five steps and the way back, over any block function F, hash g and tweak T.
 -- Assumes nothing.
-use Rattle.std.specs.Prelude.{ℕ, zero, suc, List, [], ◌∷◌, ◌++◌, codes}
+use Rattle.std.specs.Prelude.{ℕ, suc, List, [], ◌∷◌, ◌++◌, codes}
 use Rattle.std.specs.Int.Digits.{number_from_digits}
 use Rattle.elements.specs.Values.{block, block_operations}
 use Rattle.elements.specs.declared.values.Block.{Block}

@@ -1,4 +1,4 @@
-use Rattle.std.proofs.Common.{◌≡◌, ◌+◌, ◌-◌, ◌*◌, ◌/◌, ◌<◌, ◌≤◌, length, sym, ap, ◌∙◌, ap₂, arith}
+use Rattle.std.proofs.Common.{◌/◌, length, ap, ◌∙◌, ap₂, arith}
 use Rattle.sector.specs.Transform.{◌⊕◌}
 use Rattle.sector.proofs.Loops.{count_more, count_all}
 use Rattle.sector.proofs.counter.count.Goals as goal

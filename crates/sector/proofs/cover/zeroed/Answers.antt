@@ -1,4 +1,4 @@
-use Rattle.std.proofs.Common.{◌≡◌, length, get_or, ap, ◌∙◌, arith}
+use Rattle.std.proofs.Common.{length, get_or, ap, ◌∙◌, arith}
 use lib.ListN.{get_or-replicate}
 use Rattle.sector.proofs.cover.zeroed.Goals as goal
 

@@ -1,4 +1,4 @@
-use Rattle.std.proofs.Common.{◌≡◌, cond, length, is_ok, Result, sym, ap, ◌∙◌}
+use Rattle.std.proofs.Common.{cond, length, is_ok, Result, sym, ap, ◌∙◌}
 use Rattle.elements.specs.declared.values.Block.{Block}
 use Rattle.sector.specs.declared.refusal.Refusal.{Refusal}
 use Rattle.sector.specs.Texts.{enciphered_bytes, deciphered_bytes}
