@@ -1,14 +1,12 @@
 -- What a store's calls answer, case by case. Assumes nothing.
-use Rattle.std.proofs.Common.{◌≡◌, ℕ, ◌<◌, ◌≤◌, eqb, ltb, List, length, Some, None, Ok, Err, Option, Result, sym, ap, ◌∙◌, ⊎_elim}
+use Rattle.std.proofs.Common.{◌≡◌, ℕ, ◌<◌, ◌≤◌, eqb, ltb, List, Some, None, Ok, Err, Option, sym, ap, ◌∙◌, ⊎_elim}
 use Rattle.std.proofs.lemmas.Bool.{cases_eq, cases_lt, eq-eqb, ne_eqb, lt-ltb, le-ltb, cond-true, cond-false}
-use Rattle.sector.specs.declared.refusal.Refusal.{Refusal}
 use Rattle.sector.specs.declared.refusal.Refusal.TheVariants.{BufferLength, SectorNumber}
 use Rattle.stores.specs.declared.dimensions.Dimensions.{Dimensions}
 use Rattle.stores.specs.declared.fault.Fault.{Fault}
-use Rattle.stores.specs.declared.state.SectorState.{SectorState}
 use Rattle.stores.specs.declared.state.SectorState.TheVariants.{Missing}
 use Rattle.stores.specs.Stores.{Store, refusal, dimensions, misfit, first, state, state_of, failure, fault, outcome, filled}
-use Rattle.stores.specs.Layers.{Stack, store, after_write}
+use Rattle.stores.specs.Layers.{Stack, after_write}
 use Rattle.stores.proofs.Options.{none_some, was_refused, was_accepted}
 
 module _ (d : Dimensions) (n : ℕ) where
