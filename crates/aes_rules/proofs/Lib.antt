@@ -1,4 +1,4 @@
 pub mod Expansion
-mod Published
+pub mod Published
 pub mod Rules
 mod Table

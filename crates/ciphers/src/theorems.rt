@@ -1,7 +1,7 @@
 ghost use Rattle.std.specs.Prelude.{◌≡◌};
 ghost use Rattle.ciphers.specs.Vectors.{Published};
 
-// The definition of Speck128/128 gives the published vector.
-pub fn published_vector_holds()
+// The definitions give the published vectors.
+pub fn published_vectors_hold()
     ensures { Published }
 {}

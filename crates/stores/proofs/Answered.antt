@@ -1,11 +1,11 @@
 -- What a store's calls answer, case by case. Assumes nothing.
-use Rattle.std.proofs.Common.{◌≡◌, ℕ, ◌<◌, ◌≤◌, eqb, ltb, List, Some, None, Ok, Err, Option, sym, ap, ◌∙◌, ⊎_elim}
+use Rattle.std.proofs.Common.{◌≡◌, ℕ, ◌<◌, ◌≤◌, Bool, true, false, cond, eqb, ltb, List, Some, None, Ok, Err, Option, sym, ap, ◌∙◌, ⊎_elim}
 use Rattle.std.proofs.lemmas.Bool.{cases_eq, cases_lt, eq-eqb, ne_eqb, lt-ltb, le-ltb, cond-true, cond-false}
 use Rattle.sector.specs.declared.refusal.Refusal.TheVariants.{BufferLength, SectorNumber}
 use Rattle.stores.specs.declared.dimensions.Dimensions.{Dimensions}
 use Rattle.stores.specs.declared.fault.Fault.{Fault}
 use Rattle.stores.specs.declared.state.SectorState.TheVariants.{Missing}
-use Rattle.stores.specs.Stores.{Store, refusal, dimensions, misfit, first, state, state_of, failure, fault, outcome, filled}
+use Rattle.stores.specs.Stores.{Store, refusal, dimensions, misfit, state, state_of, failure, fault, outcome, filled}
 use Rattle.stores.specs.Layers.{Stack, after_write}
 use Rattle.stores.proofs.Options.{none_some, was_refused, was_accepted}
 
@@ -15,9 +15,6 @@ module _ (d : Dimensions) (n : ℕ) where
 
   misfit_sector : (len : ℕ) → len ≡ d.length → d.count ≤ n → misfit d n len ≡ Some (fault SectorNumber n d.layer)
   misfit_sector len e h = cond-true (eqb len d.length) _ _ (eq-eqb len d.length e) ∙ cond-false (ltb n d.count) _ _ (le-ltb n d.count h)
-
-  misfit_none : (len : ℕ) → len ≡ d.length → n < d.count → misfit d n len ≡ None
-  misfit_none len e h = cond-true (eqb len d.length) _ _ (eq-eqb len d.length e) ∙ cond-true (ltb n d.count) _ _ (lt-ltb n d.count h)
 
   -- what is admitted fits
   pub fits : (len : ℕ) → misfit d n len ≡ None → (len ≡ d.length) × (n < d.count)
@@ -29,19 +26,25 @@ module _ (d : Dimensions) (n : ℕ) where
       (λ other. absurd (none_some _ (sym e ∙ misfit_length len other)))
       (cases_eq len d.length)
 
+-- a fault that the two tests draw is drawn whatever comes after them
+misfit_first : (b d : Bool) (v : Option Fault) (x y f : Fault) → cond b (cond d None (Some x)) (Some y) ≡ Some f → cond b (cond d v (Some x)) (Some y) ≡ Some f
+misfit_first true true v x y f e = absurd (none_some f e)
+misfit_first true false v x y f e = e
+misfit_first false d v x y f e = e
+
 module _ (s : Store) (n : ℕ) where
   pub refusal_length : (len : ℕ) → (len ≡ s.size → ⊥) → refusal s n len ≡ Some (fault BufferLength n s.layer)
   unfolding refusal
-  refusal_length len h = ap (λ v. first v (failure (s.failed n))) (misfit_length (dimensions s) n len h)
+  refusal_length len h = cond-false (eqb len s.size) _ _ (ne_eqb len s.size h)
 
   pub refusal_in : (len : ℕ) → len ≡ s.size → n < s.count → refusal s n len ≡ failure (s.failed n)
   unfolding refusal
-  refusal_in len e h = ap (λ v. first v (failure (s.failed n))) (misfit_none (dimensions s) n len e h)
+  refusal_in len e h = cond-true (eqb len s.size) _ _ (eq-eqb len s.size e) ∙ cond-true (ltb n s.count) _ _ (lt-ltb n s.count h)
 
   -- what is not admitted is refused with that fault
   pub refusal_misfit : (len : ℕ) (f : Fault) → misfit (dimensions s) n len ≡ Some f → refusal s n len ≡ Some f
   unfolding refusal
-  refusal_misfit len f e = ap (λ v. first v (failure (s.failed n))) e
+  refusal_misfit len f e = misfit_first (eqb len s.size) (ltb n s.count) (failure (s.failed n)) (fault SectorNumber n s.layer) (fault BufferLength n s.layer) f e
 
   pub state_out : s.count ≤ n → state s n ≡ Missing
   unfolding state

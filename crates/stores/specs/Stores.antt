@@ -48,15 +48,13 @@ misfit d n len =
     (cond (nat_lt n d.count) None (Some (fault SectorNumber n d.layer)))
     (Some (fault BufferLength n d.layer))
 
--- the fault that is drawn first
-abbrev pub first : Option Fault → Option Fault → Option Fault
-first None later = later
-first (Some f) later = Some f
-
 -- the fault that a read or a write of sector n with a buffer of this length draws, in the order of the tests; None: the
 -- call is accepted
 unfoldable pub refusal : Store → ℕ → ℕ → Option Fault
-refusal s n len = first (misfit (dimensions s) n len) (failure (s.failed n))
+refusal s n len =
+    cond (len == s.size)
+    (cond (nat_lt n s.count) (failure (s.failed n)) (Some (fault SectorNumber n s.layer)))
+    (Some (fault BufferLength n s.layer))
 
 -- what the call answers
 abbrev pub outcome : Option Fault → Result (Unit {0}) Fault

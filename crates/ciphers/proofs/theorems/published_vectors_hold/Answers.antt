@@ -1,5 +1,5 @@
 use Rattle.ciphers.proofs.Published.{published}
-use Rattle.ciphers.proofs.theorems.published_vector_holds.Goals as goal
+use Rattle.ciphers.proofs.theorems.published_vectors_hold.Goals as goal
 
 pub returns : goal.returns
 returns c = published
