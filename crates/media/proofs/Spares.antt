@@ -1,11 +1,11 @@
 -- The list of bad sectors, and that no two sectors share a place. Assumes nothing.
-use Rattle.std.proofs.Common.{◌≡◌, ℕ, zero, suc, ◌+◌, ◌-◌, ◌*◌, ◌<◌, ◌≤◌, min, Bool, true, false, cond, not, ◌&&◌, eqb, ltb, ◌⊎◌, List, [], ◌∷◌, ◌++◌, length, get_or, take, drop, is_some, Some, None, Option, sym, refl, ap, ◌∙◌, subst, inl, inr, ⊎_elim, arith, length-drop, rules}
+use Rattle.std.proofs.Common.{◌≡◌, ℕ, zero, suc, ◌+◌, ◌-◌, ◌*◌, ◌<◌, ◌≤◌, min, Bool, true, false, cond, not, ◌&&◌, eqb, ltb, List, [], ◌∷◌, ◌++◌, length, get_or, take, drop, is_some, Some, None, Option, sym, refl, ap, ◌∙◌, subst, inl, inr, ⊎_elim, arith, length-drop, rules}
 use borrow.Rule.Slice.PartMut.{put_mid, post_of}
 use Rattle.std.proofs.lemmas.List.{get_or-drop, places, same_lists, drop_more}
-use Rattle.std.proofs.lemmas.Bool.{and_parts, false≢true, cases_eq, cases_lt, cases_order, cond-true, cond-false, eq-eqb, ne_eqb, lt-ltb, le-ltb, leb-true}
+use Rattle.std.proofs.lemmas.Bool.{and_parts, false≢true, cases_eq, cases_lt, cases_order, cond-true, cond-false, eq-eqb, ne_eqb, lt-ltb, le-ltb}
 use Rattle.stores.specs.Stores.{put}
 use Rattle.media.specs.Media.{place}
-use Rattle.media.specs.Spared.{later, position, spare_place, lies, own_or, home, idle, lost, spared_store, listed, Failures}
+use Rattle.media.specs.Spared.{later, position, spare_place, lies, own_or, lost, spared_store, listed, Failures}
 use Rattle.media.proofs.Lying.{place_end, part_same, part_other, put_length}
 use Rattle.stores.proofs.Options.{none_some, some_same}
 
@@ -89,12 +89,12 @@ module _ (n spares : ℕ) (bad : List ℕ) where
   -- what is known of a sector's place
   data Lies (k p : ℕ) : Type 0 where
     own : p ≡ k → Lies k p
-    spare : (i : ℕ) → get_or bad i 0 ≡ k → i < spares → i < length bad → p ≡ n + i → Lies k p
+    spare : (i : ℕ) → get_or bad i 0 ≡ k → i < spares → p ≡ n + i → Lies k p
 
   lies_by : (k : ℕ) (o : Option ℕ) → position bad k ≡ o → Lies k (own_or k (lies (n + spares) k (spare_place n o)))
   lies_by k None e = own refl
   lies_by k (Some i) e = ⊎_elim
-      (λ h. spare i (position_is bad k i e).0 (omega arith) (position_is bad k i e).1 (ap (own_or k) (cond-true (ltb (n + i) (n + spares)) _ _ (lt-ltb (n + i) (n + spares) h))))
+      (λ h. spare i (position_is bad k i e).0 (omega arith) (ap (own_or k) (cond-true (ltb (n + i) (n + spares)) _ _ (lt-ltb (n + i) (n + spares) h))))
       (λ h. own (ap (own_or k) (cond-false (ltb (n + i) (n + spares)) _ _ (le-ltb (n + i) (n + spares) h))))
       (cases_lt (n + i) (n + spares))
 
@@ -103,26 +103,14 @@ module _ (n spares : ℕ) (bad : List ℕ) where
 
   apart_by : (k j p q : ℕ) → k < n → j < n → (k ≡ j → ⊥) → Lies k p → Lies j q → p ≡ q → ⊥
   apart_by k j p q hk hj ne (own e) (own f) same = ne (omega arith)
-  apart_by k j p q hk hj ne (own e) (spare i b h l f) same = omega arith
-  apart_by k j p q hk hj ne (spare i b h l e) (own f) same = omega arith
-  apart_by k j p q hk hj ne (spare i b h l e) (spare i' b' h' l' f) same =
+  apart_by k j p q hk hj ne (own e) (spare i b h f) same = omega arith
+  apart_by k j p q hk hj ne (spare i b h e) (own f) same = omega arith
+  apart_by k j p q hk hj ne (spare i b h e) (spare i' b' h' f) same =
       let s : i ≡ i' = omega arith in ne (sym b ∙ ap (λ z. get_or bad z 0) s ∙ b')
 
   inside_by : (k p : ℕ) → k < n → Lies k p → p < n + spares
   inside_by k p h (own e) = omega arith
-  inside_by k p h (spare i b l t e) = omega arith
-
-  idle_by : (m r p : ℕ) → home n spares bad m ≡ r → m < n → Lies m r → r ≡ p → idle n spares bad p ≡ true → ⊥
-  idle_by m r p s h (own e) q o =
-      let there : home n spares bad p ≡ p = ap (home n spares bad) (sym q ∙ e) ∙ s ∙ q in
-      false≢true (sym (cond-true (ltb p n) _ _ (lt-ltb p n (omega arith)) ∙ ap not (eq-eqb (home n spares bad p) p there)) ∙ o)
-  idle_by m r p s h (spare i b l t e) q o =
-      let past : n + length bad ≤ p = leb-true (n + length bad) p (sym (cond-false (ltb p n) _ _ (le-ltb p n (omega arith))) ∙ o) in
-      omega (arith, past)
-
-  -- no sector lies in an idle place
-  pub idle_apart : (m p : ℕ) → m < n → home n spares bad m ≡ p → idle n spares bad p ≡ true → ⊥
-  idle_apart m p h = idle_by m _ p refl h (known m)
+  inside_by k p h (spare i b l e) = omega arith
 
   -- two sectors lie in two places
   pub apart : (k j : ℕ) → k < n → j < n → (k ≡ j → ⊥) → own_or k (at k) ≡ own_or j (at j) → ⊥
@@ -161,20 +149,13 @@ module _ (all xs : List ℕ) (n size spares : ℕ) (bad : List ℕ) (m p : ℕ) 
       (⊎_elim (λ e. absurd (apart n spares bad k m h below ne (e ∙ sym is_place))) (⊎_elim (λ l. inl (place_end (own_or k (at n spares bad k)) p size l)) (λ l. inr (place_end p (own_or k (at n spares bad k)) size l)))
       (cases_order (own_or k (at n spares bad k)) p))
 
-  idle_same : (j : ℕ) (b : Bool) → idle n spares bad j ≡ b → cond b (place after size j) [] ≡ cond b (place all size j) []
-  unfolding after
-  idle_same j false e = refl
-  idle_same j true e = part_other all xs (p * size) size fits sized (j * size)
-      (⊎_elim (λ q. absurd (idle_apart n spares bad m j below (is_place ∙ sym q) e)) (⊎_elim (λ l. inl (place_end j p size l)) (λ l. inr (place_end p j size l)))
-      (cases_order j p))
-
   sector_at : (k : ℕ) → (spared_store after n size spares bad).bytes k ≡ cond (eqb k m) xs ((spared_store all n size spares bad).bytes k)
   unfolding after
   sector_at k = ⊎_elim
-      (λ e. cond-true (ltb k n) _ _ (lt-ltb k n (omega arith)) ∙ ap (λ z. place after size (home n spares bad z)) e ∙ ap (place after size) is_place ∙ part_same all xs (p * size) size fits sized ∙ sym (cond-true (eqb k m) _ _ (eq-eqb k m e)))
+      (λ e. cond-true (ltb k n) _ _ (lt-ltb k n (omega arith)) ∙ ap (λ z. place after size (own_or z (at n spares bad z))) e ∙ ap (place after size) is_place ∙ part_same all xs (p * size) size fits sized ∙ sym (cond-true (eqb k m) _ _ (eq-eqb k m e)))
       (λ ne. ⊎_elim
       (λ h. cond-true (ltb k n) _ _ (lt-ltb k n h) ∙ other_place k h ne ∙ sym (cond-true (ltb k n) _ _ (lt-ltb k n h)))
-      (λ h. cond-false (ltb k n) _ _ (le-ltb k n h) ∙ idle_same (k - n) (idle n spares bad (k - n)) refl ∙ sym (cond-false (ltb k n) _ _ (le-ltb k n h)))
+      (λ h. cond-false (ltb k n) _ _ (le-ltb k n h) ∙ sym (cond-false (ltb k n) _ _ (le-ltb k n h)))
       (cases_lt k n)
       ∙ sym (cond-false (eqb k m) _ _ (ne_eqb k m ne)))
       (cases_eq k m)

@@ -1,5 +1,5 @@
 -- A medium with spare places and a list of bad sectors. Assumes nothing.
-use Rattle.std.specs.Prelude.{◌≡◌, ℕ, suc, ◌+◌, ◌-◌, ◌*◌, ◌<◌, Bool, true, cond, not, ◌&&◌, List, [], ◌∷◌, length, is_some, Some, None, Option, ◌==◌, ◌≢◌, nat_le, nat_lt, slice_index}
+use Rattle.std.specs.Prelude.{◌≡◌, ℕ, suc, ◌+◌, ◌*◌, ◌<◌, Bool, true, cond, not, ◌&&◌, List, [], ◌∷◌, length, is_some, Some, None, Option, ◌==◌, ◌≢◌, nat_le, nat_lt, slice_index}
 use Rattle.stores.specs.Stores.{Store, Place}
 use Rattle.media.specs.Media.{place, within_limits}
 
@@ -34,22 +34,13 @@ abbrev pub lost : ℕ → Option ℕ → Option Place
 lost k None = Some (record { sector = k; layer = 0 })
 lost k (Some p) = None
 
--- the place in which sector k lies, failed or not
-abbrev pub home : ℕ → ℕ → List ℕ → ℕ → ℕ
-home n spares bad k = own_or k (lies (n + spares) k (spare_place n (position bad k)))
-
--- no sector lies in place p: the own place of a sector that lies in a spare, or a spare past the list
-abbrev pub idle : ℕ → ℕ → List ℕ → ℕ → Bool
-idle n spares bad p = cond (nat_lt p n) (not (home n spares bad p == p)) (nat_le (n + length bad) p)
-
--- n sectors with spares, by the list of bad sectors. The numbers past the last sector show the places that no sector lies
--- in, one after the other: so the meaning accounts for every byte, and a write that touched one of them would not keep to it
+-- n sectors with spares, by the list of bad sectors
 abbrev pub spared_store : List ℕ → ℕ → ℕ → ℕ → List ℕ → Store
 spared_store all n size spares bad = record {
   count = n;
   size = size;
   layer = 0;
-  bytes = λ k. cond (nat_lt k n) (place all size (home n spares bad k)) (cond (idle n spares bad (k - n)) (place all size (k - n)) []);
+  bytes = λ k. cond (nat_lt k n) (place all size (own_or k (lies (n + spares) k (spare_place n (position bad k))))) [];
   failed = λ k. lost k (lies (n + spares) k (spare_place n (position bad k)));
 }
 

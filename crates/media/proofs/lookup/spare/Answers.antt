@@ -2,5 +2,5 @@ use Rattle.std.proofs.Common.{sym, arith}
 use Rattle.media.proofs.Spares.{position_is}
 use Rattle.media.proofs.lookup.spare.Goals as goal
 
-pub overflow-add-result : goal.overflow-add-result
-overflow-add-result c = omega (arith, (position_is c.args.bad.now c.args.n c.in-Some.i (sym c.in-Some.ensures)).1)
+pub overflow_add-result : goal.overflow_add-result
+overflow_add-result c = omega (arith, (position_is c.args.bad.now c.args.n c.in-Some.i (sym c.in-Some.ensures)).1)

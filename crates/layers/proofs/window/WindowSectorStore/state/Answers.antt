@@ -10,8 +10,8 @@ returns-then-n-count g c =
     let p = g.S.SectorStore.view w.below in
     sym (state_out (store (over (window w.base w.count) p)) c.args.n (subst (λ x. x ≤ c.args.n) c.count.ensures c.if-n-count.true))
 
-pub overflow-add-self : goal.overflow-add-self
-overflow-add-self g c =
+pub overflow_add-self : goal.overflow_add-self
+overflow_add-self g c =
     let w = c.args.self.now in
     let p = g.S.SectorStore.view w.below in
     let few = window_few p w.base w.count c.args.n (subst (λ x. c.args.n < x) c.count.ensures c.if-n-count.false) (g.S.SectorStore.sound w.below) in

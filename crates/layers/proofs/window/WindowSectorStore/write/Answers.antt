@@ -13,11 +13,11 @@ returns-in_err-admit g c =
     let n = c.args.n in
     let xs = c.args.buffer.now in
     let e = turned_away (store p) n (length xs) _ c.dimensions.ensures _ c.in_err-admit.ensures in
-    let q = err_from_is_err_and c.from-residual.result c.from-residual.ensures.1 in
+    let q = err_from_is_err_and c.from_residual.result c.from_residual.ensures.1 in
     record { answer = q.1 ∙ ap Err q.2 ∙ ap outcome (sym e); after = write_refused p n xs _ _ e }
 
-pub overflow-add-self : goal.overflow-add-self
-overflow-add-self g c =
+pub overflow_add-self : goal.overflow_add-self
+overflow_add-self g c =
     let w = c.args.self.now in
     let p = over (window w.base w.count) (g.S.SectorStore.view w.below) in
     let n = c.args.n in

@@ -14,7 +14,7 @@ returns-in_err-admit c =
     let n = c.args.n in
     let xs = c.args.buffer.now in
     let e = turned_away m n (length xs) _ c.dimensions.ensures _ c.in_err-admit.ensures in
-    let p = err_from_is_err_and c.from-residual.result c.from-residual.ensures.1 in
+    let p = err_from_is_err_and c.from_residual.result c.from_residual.ensures.1 in
     record { answer = p.1 ∙ ap Err p.2 ∙ ap outcome (sym e); after = write_refused (alone m) n xs _ _ e }
 
 pub put_place-requires : goal.put_place-requires
