@@ -21,7 +21,7 @@ fn told(r: Result<(), Fault>) -> Answer
 
 // Puts one write. A slice's elements are known to be bytes.
 fn put_write<P: SectorStore>(stack: &mut P, n: u64, buffer: &[u8]) -> Answer
-    ensures step { Step (view stack.old) (view stack.new) (ask_write n buffer.now) (ask_write n buffer.now) result }
+    ensures step { Step (P.view stack.old) (P.view stack.new) (ask_write n buffer.now) (ask_write n buffer.now) result }
     ensures octets { AllBelowBase 256 buffer.now }
 {
     told(stack.write(n, buffer))
@@ -29,7 +29,7 @@ fn put_write<P: SectorStore>(stack: &mut P, n: u64, buffer: &[u8]) -> Answer
 
 // Puts one call.
 fn put<P: SectorStore>(stack: &mut P, call: &mut Call) -> Answer
-    ensures step { Step (view stack.old) (view stack.new) (ask call.old) (ask call.new) result }
+    ensures step { Step (P.view stack.old) (P.view stack.new) (ask call.old) (ask call.new) result }
     ensures octets { Octets (ask call.old) }
 {
     match call {

@@ -1,7 +1,7 @@
 ghost use Rattle.std.specs.Prelude.{◌≡◌, List, [], ◌∷◌, length};
 ghost use Rattle.stores.specs.Layers.{Layer, enciphering, window};
 ghost use Rattle.stacks.specs.Laid.{laid};
-ghost use Rattle.std.proofs.Common.{rules};
+ghost use Rattle.std.proofs.Common.{refl, ap, suc, rules};
 
 use ciphers::function::BlockFunction;
 use hashing::BlockHash;
@@ -35,7 +35,7 @@ impl<S: SectorStore> StackOn<S, Zero> for S {
 
     ghost stands = { Prim.search rules };
 
-    ghost deep = { Prim.search rules };
+    ghost deep = { λ s t. refl };
 }
 
 impl<B: SectorStore, N, P: StackOn<B, N>, F: BlockFunction, H: BlockHash> StackOn<B, Next<N>>
@@ -46,7 +46,7 @@ impl<B: SectorStore, N, P: StackOn<B, N>, F: BlockFunction, H: BlockHash> StackO
 
     ghost stands = { Prim.search rules };
 
-    ghost deep = { Prim.search rules };
+    ghost deep = { λ s t. ap suc (P.StackOn.deep s.below t.below) };
 }
 
 impl<B: SectorStore, N, P: StackOn<B, N>> StackOn<B, Next<N>> for Window<P> {
@@ -56,5 +56,5 @@ impl<B: SectorStore, N, P: StackOn<B, N>> StackOn<B, Next<N>> for Window<P> {
 
     ghost stands = { Prim.search rules };
 
-    ghost deep = { Prim.search rules };
+    ghost deep = { λ s t. ap suc (P.StackOn.deep s.below t.below) };
 }

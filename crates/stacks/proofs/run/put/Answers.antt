@@ -1,7 +1,6 @@
 use Rattle.std.proofs.Common.{◌≡◌, ℕ, List, ◌++◌, length, take, drop, vec_items, sym, refl, ap, ◌∙◌, subst}
 use Rattle.std.specs.Int.Digits.{AllBelowBase}
 use Rattle.std.proofs.lemmas.List.{take_at}
-use Rattle.stores.specs.Stores.{filled}
 use Rattle.stacks.specs.declared.call.Call.{Call}
 use Rattle.stacks.specs.Calls.{noted, ask, ask_read, ask_write}
 use Rattle.stacks.specs.Steps.{Step, Octets}
