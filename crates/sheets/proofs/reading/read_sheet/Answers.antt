@@ -14,7 +14,7 @@ loop-found-preserved c =
     let at = c.loop-found.at in
     let x = c.in-Ok-Some.found.«record» in
     let h : NextIs s at (Ok (Some c.in-Ok-Some.found)) = search rules in
-    let e : vec_items c.push.new.self ≡ v ++ x ∷ [] = c.in_ok-push.ensures.items in
+    let e : vec_items c.push.new.self ≡ v ++ x ∷ [] = c.in_ok-push-in-Ok-Some.ensures.items in
     let l : Lie s 1 (map said v ++ said x ∷ []) c.in-Ok-Some.found.next = subst (Lie s 1 (map said v ++ said x ∷ [])) (sym h.2) (lie_push s 1 (map said v) at (said x) c.loop-found.invariant.0 h.1) in (
       subst (λ (rs : List Said). Lie s 1 rs c.in-Ok-Some.found.next) (sym (ap (map said) e ∙ map_push said v x)) l,
       omega (arith, h.2, (ends_within s at (said x) h.1).1),
