@@ -1,11 +1,11 @@
 -- A line tells its record. Assumes nothing.
-use Rattle.std.proofs.Common.{◌≡◌, ℕ, ◌+◌, ◌/◌, ◌%◌, ◌^◌, ◌<◌, Bool, true, false, cond, eqb, ltb, List, [], ◌∷◌, get_or, Some, None, Ok, Err, codes, decimal, Option, Result, sym, refl, ap, ◌∙◌, ap₂, arith, lit<}
+use Rattle.std.proofs.Common.{◌≡◌, ℕ, ◌/◌, ◌%◌, ◌^◌, ◌<◌, true, false, cond, eqb, List, [], ◌∷◌, get_or, Some, None, Ok, Err, codes, decimal, Option, Result, sym, refl, ap, ◌∙◌, ap₂, arith, lit<}
 use Rattle.std.proofs.lemmas.Fmt.{decimal_injective}
 use Rattle.std.proofs.lemmas.Bool.Decides.{nat_tests}
 use Rattle.std.specs.Int.Digits.{AllBelowBase}
 use Rattle.std.specs.Str.{all_ascii_digits}
 use Rattle.text.specs.Writing.{capital_digit, bytes_text, Unspaced, AllUnspaced}
-use Rattle.text.specs.Words.{words, spaced}
+use Rattle.text.specs.Words.{words}
 use Rattle.text.proofs.Decimals.{decimal_digits, unspaced_number}
 use Rattle.text.proofs.Spaces.{words_spaced, words_unspaced}
 use Rattle.sector.specs.declared.refusal.Refusal.{Refusal}

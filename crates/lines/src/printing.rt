@@ -1,5 +1,5 @@
 ghost use Rattle.std.specs.Prelude.{◌≡◌, ◌<◌, [], ◌∷◌, Some};
-ghost use Rattle.std.proofs.Math.Utf8.{encode};
+ghost use Rattle.std.specs.Char.{encode_utf8};
 ghost use Rattle.text.specs.Writing.{capital_digit, bytes_text};
 ghost use Rattle.lines.specs.Printed.{kind_word, answer_number, shown_or_dash, line_text, header_text, report_text};
 
@@ -34,7 +34,7 @@ fn answer_number(answer: Result<(), Refusal>) -> u8
 // The capital hex digit of a value below 16.
 fn capital_digit(value: u8) -> char
     requires { value < 16 }
-    ensures { encode result ≡ capital_digit value ∷ [] }
+    ensures { encode_utf8 result ≡ capital_digit value ∷ [] }
 {
     if value < 10 {
         char::from(b'0' + value)

@@ -16,8 +16,8 @@ use text::words::same;
 
 // Writes a list as the bytes of its blocks.
 fn write_bytes<L: Elements<Block>>(list: &L, output: &mut [u8])
-    requires { length output.old ≡ 16 * length (items list.now) }
-    ensures { output.new ≡ joined (items list.now) }
+    requires { length output.old ≡ 16 * length (L.items list.now) }
+    ensures { output.new ≡ joined (L.items list.now) }
 {
     for i in 0..list.len() {
         let x = list.get(i).unwrap();
