@@ -1,4 +1,4 @@
-use Rattle.std.proofs.Common.{◌≡◌, ℕ, ◌+◌, List, [], ◌∷◌, ◌++◌, map, length, get_or, take, vec_items, Option, sym, ap, ◌∙◌, subst, arith, take_all, rules}
+use Rattle.std.proofs.Common.{◌≡◌, ℕ, List, [], ◌∷◌, ◌++◌, map, length, get_or, take, vec_items, Option, sym, ap, ◌∙◌, subst, arith, take_all, rules}
 use Rattle.std.proofs.lemmas.List.{map_more}
 use Rattle.stacks.specs.declared.call.Entry.{Entry}
 use Rattle.sheets.specs.declared.records.Record.{Record}
