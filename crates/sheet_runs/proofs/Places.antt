@@ -1,5 +1,5 @@
 -- Places of lists. Assumes nothing.
-use Rattle.std.proofs.Common.{◌≡◌, ℕ, zero, suc, ◌+◌, List, [], ◌∷◌, ◌++◌, map, length, take, drop, Some, refl, ap}
+use Rattle.std.proofs.Common.{◌≡◌, ℕ, zero, suc, List, [], ◌∷◌, ◌++◌, map, length, take, drop, Some, refl, ap}
 use Rattle.std.specs.List.{slice_get}
 use Rattle.stacks.proofs.Nths.{none_some, some_same}
 

@@ -6,7 +6,7 @@ use Rattle.hashing.specs.declared.choice.AnyHash.{AnyHash}
 use Rattle.sheets.specs.Records.{Said, setting, write, read}
 use Rattle.sheet_turns.specs.declared.turns.Run.{Run}
 use Rattle.sheet_turns.specs.declared.turns.Run.TheVariants.{Waiting, Running}
-use Rattle.sheet_turns.specs.Settings.{cipher_by, hash_by, figures, set_to, admitted}
+use Rattle.sheet_turns.specs.Settings.{cipher_by, hash_by, figures, set_to}
 use Rattle.sheet_turns.specs.Table.{begun, table, after}
 use Rattle.sheet_runs.specs.Puts.{Sane}
 
