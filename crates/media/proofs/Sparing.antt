@@ -1,15 +1,15 @@
 -- What the calls of a spared medium come to, by where the sector lies. Assumes nothing.
-use Rattle.std.proofs.Common.{◌≡◌, ℕ, ◌+◌, ◌*◌, ◌<◌, ◌≤◌, true, ◌&&◌, eqb, ltb, leb, List, [], length, drop, Some, None, Ok, sym, ap, ◌∙◌, subst, arith}
+use Rattle.std.proofs.Common.{◌≡◌, ℕ, ◌+◌, ◌*◌, ◌<◌, ◌≤◌, true, ◌&&◌, eqb, ltb, leb, List, [], length, drop, Some, None, Ok, sym, ap, ◌∙◌, subst, ⊎_elim, inr, inl, arith}
 use borrow.Rule.Slice.PartMut.{put_mid}
-use Rattle.std.proofs.lemmas.Bool.{and_parts, cond_both, cond-true, eqb-true, lt-ltb, false≢true}
+use Rattle.std.proofs.lemmas.Bool.{and_parts, cases_order, cond_both, cond-true, eqb-true, lt-ltb, false≢true}
 use Rattle.sector.specs.declared.refusal.Refusal.TheVariants.{SectorFailed}
 use Rattle.stores.specs.declared.state.SectorState.TheVariants.{Ready, Failed}
 use Rattle.stores.specs.Stores.{Store, refusal, state, state_of, failure, fault, outcome, filled, put}
 use Rattle.stores.specs.Layers.{alone, after_write}
 use Rattle.media.specs.Media.{place, within_limits}
-use Rattle.media.specs.Spared.{spared_figures, spared_store, spared_medium, listed, position, spare_place, lies, own_or, lost, Failures}
+use Rattle.media.specs.Spared.{spared_figures, spared_store, spared_medium, listed, position, spare_place, lies, own_or, home, lost, Failures}
 use Rattle.stores.proofs.Answered.{refusal_in, state_in}
-use Rattle.media.proofs.Lying.{place_end}
+use Rattle.media.proofs.Lying.{place_end, part_other}
 use Rattle.media.proofs.Spares.{inside, spared_put, put_long, failures_are}
 
 module _ (all : List ℕ) (n size spares : ℕ) (bad : List ℕ) where
@@ -108,3 +108,14 @@ module _ (all : List ℕ) (n size spares : ℕ) (bad : List ℕ) (k : ℕ) (belo
         ap (λ z. alone (spared_medium z n size spares bad)) (got ∙ ap (λ z. put_mid (p * z) z all xs) (as_long (length xs) e))
         ∙ ap alone (put_there xs (as_long (length xs) e))
         ∙ ap (λ v. after_write v (alone (spared_medium all n size spares bad)) k xs) (sym (accepted (length xs) e))
+
+    -- every other place is as it was, one in which no sector lies too
+    pub written_elsewhere : (xs after : List ℕ) → length xs ≡ (spared_medium all n size spares bad).size → after ≡ put_mid (p * length xs) (length xs) all xs
+        → (q : ℕ) → (q ≡ home n spares bad k → ⊥) → place after size q ≡ place all size q
+    written_elsewhere xs after e got q ne =
+        let s : length xs ≡ size = as_long (length xs) e in
+        let fits : p * size + size ≤ length all = subst (λ z. p * z + z ≤ length all) s (place_room (length xs) e) in
+        ap (λ z. place z size q) (got ∙ ap (λ z. put_mid (p * z) z all xs) s)
+        ∙ part_other all xs (p * size) size fits s (q * size)
+        (⊎_elim (λ same. absurd (ne (same ∙ sym (ap (own_or k) there)))) (⊎_elim (λ l. inl (place_end q p size l)) (λ l. inr (place_end p q size l)))
+        (cases_order q p))

@@ -34,6 +34,10 @@ abbrev pub lost : ℕ → Option ℕ → Option Place
 lost k None = Some (record { sector = k; layer = 0 })
 lost k (Some p) = None
 
+-- the place in which sector k lies, failed or not
+abbrev pub home : ℕ → ℕ → List ℕ → ℕ → ℕ
+home n spares bad k = own_or k (lies (n + spares) k (spare_place n (position bad k)))
+
 -- n sectors with spares, by the list of bad sectors
 abbrev pub spared_store : List ℕ → ℕ → ℕ → ℕ → List ℕ → Store
 spared_store all n size spares bad = record {

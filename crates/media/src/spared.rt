@@ -1,9 +1,10 @@
-ghost use Rattle.std.specs.Prelude.{◌≡◌, ℕ, ◌<◌, List, ◌++◌, length as type_size, drop, MatchResult};
+ghost use Rattle.std.specs.Prelude.{◌≡◌, ◌≢◌, ℕ, ◌<◌, List, ◌++◌, length as type_size, drop, MatchResult};
 ghost use Rattle.sector.specs.declared.refusal.Refusal.TheVariants.{BufferLength, SectorFailed};
-ghost use Rattle.stores.specs.Layers.{alone};
+ghost use Rattle.stores.specs.Layers.{alone, after_write};
 ghost use Rattle.media.specs.Limits.{spared_sound};
-ghost use Rattle.stores.specs.Stores.{checked, fault};
-ghost use Rattle.media.specs.Spared.{Failures, spared_figures, spared_medium};
+ghost use Rattle.stores.specs.Stores.{checked, fault, outcome, refusal};
+ghost use Rattle.media.specs.Media.{place};
+ghost use Rattle.media.specs.Spared.{Failures, home, spared_figures, spared_medium};
 
 use crate::lookup::{listed, spare};
 use crate::places::{get_place, put_place};
@@ -193,7 +194,12 @@ impl SectorStore for SparedMedium<'_> {
         }
     }
 
-    fn write(&mut self, n: u64, buffer: &[u8]) -> Result<(), Fault> {
+    // As every store writes; and of the memory no place changes but the sector's, one in which no sector lies neither.
+    fn write(&mut self, n: u64, buffer: &[u8]) -> Result<(), Fault>
+        ensures answer { result ≡ outcome (refusal (spared_medium self.old.bytes.now self.old.count self.old.length self.old.spares self.old.bad.now) n (type_size buffer.now)) }
+        ensures after { alone (spared_medium self.new.bytes.now self.new.count self.new.length self.new.spares self.new.bad.now) ≡ after_write (refusal (spared_medium self.old.bytes.now self.old.count self.old.length self.old.spares self.old.bad.now) n (type_size buffer.now)) (alone (spared_medium self.old.bytes.now self.old.count self.old.length self.old.spares self.old.bad.now)) n buffer.now }
+        ensures elsewhere { (p : ℕ) → p ≢ home self.old.count self.old.spares self.old.bad.now n → place self.new.bytes.now self.old.length p ≡ place self.old.bytes.now self.old.length p }
+    {
         self.dimensions().admit(n, buffer.len())?;
         match spare(self.bad, self.count, n) {
             None => {

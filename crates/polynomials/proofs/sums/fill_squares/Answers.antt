@@ -1,5 +1,5 @@
-use Rattle.std.proofs.Common.{get_or, set, ◌∙◌, subst, ap₂, arith}
-use Rattle.std.proofs.lemmas.List.{get_or-set_same}
+use Rattle.std.proofs.Common.{◌≡◌, ◌-◌, get_or, set, subst, arith}
+use Rattle.std.proofs.lemmas.List.{get_or-set_same, get_or_default}
 use Rattle.polynomials.specs.Sums.{Squares}
 use Rattle.polynomials.proofs.Brw.{squares_none, squares_first, squares_next, squares_all}
 use Rattle.polynomials.proofs.sums.fill_squares.Goals as goal
@@ -13,9 +13,10 @@ loop-i-init g c = squares_first g.E.Arithmetic.operations (set c.args.table.now 
 pub loop-i-preserved : goal.loop-i-preserved
 loop-i-preserved g c =
     let o = g.E.Arithmetic.operations in
+    -- by no name of either element that is read, so that an edit which reads another is refused by this fact
+    let squared : c.mul.result ≡ o.product (get_or c.loop-i.table (c.loop-i.i - 1) o.zero) (get_or c.loop-i.table (c.loop-i.i - 1) o.zero) = grind (arith, get_or_default) in
     squares_next o (get_or (set c.args.table.now 0 c.args.key) 0 o.zero) c.loop-i.table c.loop-i.i c.mul.result
-    c.index-table-i.result c.index-table-i-in-loop-i.result (omega arith) (omega arith) c.loop-i.invariant
-    (c.mul.ensures ∙ ap₂ o.product c.index-table-i.is c.index-table-i-in-loop-i.is)
+    o.zero o.zero (omega arith) (omega arith) c.loop-i.invariant squared
 
 pub returns : goal.returns
 returns g c =
