@@ -4,16 +4,21 @@ use std::alloc::Global;
 use std::process::Abort;
 use std::test::Fail;
 
-// Whether the run of a sheet prints this text, made as the program `bench` makes it.
+// What the run of a sheet prints, made as the program `bench` makes it.
+pub(crate) fn printed(heap: Global, sheet: &[u8]) -> Result<String, Fail> {
+    let lines = run_sheet(heap, sheet)?;
+    let report = Report { lines: &lines };
+    Ok(report.to_string(heap)?)
+}
+
+// Whether the run of a sheet prints this text.
 pub(crate) fn prints(
     rt: &impl Abort,
     heap: Global,
     sheet: &[u8],
     expected: &str,
 ) -> Result<(), Fail> {
-    let lines = run_sheet(heap, sheet)?;
-    let report = Report { lines: &lines };
-    let printed = report.to_string(heap)?;
-    assert_eq!(rt; printed.as_str(), expected);
+    let text = printed(heap, sheet)?;
+    assert_eq!(rt; text.as_str(), expected);
     Ok(())
 }

@@ -1,5 +1,5 @@
 // Sheets with what an independent program prints for them.
-use crate::prints::prints;
+use crate::prints::printed;
 use std::test::Fail;
 
 #[derive(Clone, Copy)]
@@ -100,7 +100,8 @@ const CASES: [Case; 17] = [
 #[test]
 fn sheets_of_the_reference(rt: HostRuntime) -> Result<(), Fail> {
     for case in &CASES {
-        prints(&rt, rt.alloc(), case.sheet, case.printed).note(case.about)?;
+        let text = printed(rt.alloc(), case.sheet)?;
+        assert_eq!(rt; text.as_str(), case.printed, "{}", case.about);
     }
     Ok(())
 }

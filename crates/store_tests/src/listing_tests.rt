@@ -71,7 +71,7 @@ fn only_last(bytes: &[u8]) -> bool {
     for b in front {
         zero = zero && *b == 0;
     }
-    zero && last != &[0; 64]
+    zero && last != [0; 64].as_slice()
 }
 
 #[test]
@@ -111,8 +111,8 @@ fn unstack(rt: &impl Abort, bytes: &mut [u8]) {
     assert_ne!(rt; enciphered, [0x5a; 64]);
     let memory = medium.into_bytes();
     assert!(rt; memory.len() == 256);
-    assert!(rt; &memory[0..192] == &[7; 192]);
-    assert!(rt; &memory[192..256] == &enciphered);
+    assert!(rt; &memory[0..192] == [7; 192].as_slice());
+    assert!(rt; &memory[192..256] == enciphered.as_slice());
 }
 
 #[test]

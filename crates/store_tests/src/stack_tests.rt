@@ -206,6 +206,6 @@ fn four_layers(rt: HostRuntime) -> Result<(), Fail> {
     let (places, spare) = bytes.as_slice().split_at(384);
     let (untouched, _) = before.as_slice().split_at(384);
     assert!(rt; places == untouched);
-    assert!(rt; spare == &SPARE);
+    assert!(rt; spare == SPARE.as_slice());
     Ok(())
 }
