@@ -4,9 +4,11 @@
 use answers::reading::without_end;
 use anyhow::anyhow;
 use std::io::{BufRead, BufReader};
+use std::process::ExitCode;
 use verdicts::verdict::{Tally, judge};
 
-fn main(rt: HostRuntime) -> anyhow::Result<()> {
+// Reads all lines and prints what there is to say of each. It is an error if some differ.
+fn judge_lines(rt: &HostRuntime) -> anyhow::Result<()> {
     let mut input = BufReader::new(rt.alloc(), rt.stdin())?;
     let mut line = Vec::new(rt.alloc());
     let mut tally = Tally::new();
@@ -22,9 +24,16 @@ fn main(rt: HostRuntime) -> anyhow::Result<()> {
         }
     }
     println!(rt; "{tally}")?;
-    // an error, of which nothing is printed, ends the program with status 1
     if tally.differ > 0 {
         return Err(anyhow!("some lines differ"));
     }
     Ok(())
+}
+
+// An error, of which nothing is printed, ends the program with status 1.
+fn main(rt: HostRuntime) -> ExitCode {
+    match judge_lines(&rt) {
+        Ok(()) => ExitCode::SUCCESS,
+        Err(_) => ExitCode::FAILURE,
+    }
 }
