@@ -21,7 +21,7 @@ use Rattle.text.proofs.Decimals.{read_number_text, number_word_text, small_numbe
 use Rattle.text.proofs.Hexes.{small_small, small_capital}
 use Rattle.answers.proofs.Names.{named_is, named_word, unspaced_kind}
 use Rattle.text.proofs.Renderings.{read_block_text, block_word_text, block_word_small, small_block_text, read_list_text, list_word_text, list_word_small, small_list_text, unspaced_block, unspaced_list}
-use Rattle.text.proofs.Spaces.{words_spaced, spaced_words, all_unspaced_small}
+use Rattle.text.proofs.Spaces.{words_spaced, spaced_words, words_unspaced, all_unspaced_small}
 
 -- ---- three fields
 
@@ -396,6 +396,8 @@ reading_laws = record {
   only = only;
   every = every;
   others = others;
+  rejoined = spaced_words;
+  unspaced = words_unspaced;
 }
 
 -- the same of what a reader gives

@@ -1,7 +1,7 @@
 -- Known answers written as lines, and the laws of reading them. Assumes nothing.
 use Rattle.std.specs.Prelude.{◌≡◌, ℕ, ◌^◌, ◌<◌, true, false, List, [], ◌∷◌, ◌++◌, map, decimal}
-use Rattle.text.specs.Words.{spaced}
-use Rattle.text.specs.Writing.{small_digit, capital_digit, block_text, list_text, small}
+use Rattle.text.specs.Words.{words, spaced}
+use Rattle.text.specs.Writing.{small_digit, capital_digit, block_text, list_text, small, AllUnspaced}
 use Rattle.answers.specs.Kinds.{kind_word, cipher_kind, hash_kind}
 use Rattle.answers.specs.Reading.{Known, of_aes, of_speck, of_product, of_horner, of_brw, of_sector, sector_texts, understood, not_understood, remark, read}
 use Rattle.answers.specs.declared.kinds.Kind.TheVariants.{Aes, Speck, Product, Horner, Brw}
@@ -55,3 +55,6 @@ pub record ReadingLaws : Type 0 where
   pub every : (line : List ℕ) (k : Known) → Written k line → read line ≡ understood k
   -- what is no remark, and the line of no answer, is not understood
   pub others : (line : List ℕ) → remark line ≡ false → ((k : Known) → Written k line → ⊥) → read line ≡ not_understood
+  -- the words of a text have no space in them, and with single spaces between them they are the text
+  pub rejoined : (t : List ℕ) → spaced (words t) ≡ t
+  pub unspaced : (t : List ℕ) → AllUnspaced (words t)

@@ -53,8 +53,7 @@ fn call_block<F: BlockFunction>(f: &F, plain: &[u8], output: &mut [u8]) -> u8
 }
 
 // The product of two blocks. Answers 0, or 2 where one of the three is not 16 bytes long; `product` is then as it was.
-#[unsafe(no_mangle)]
-pub extern "C" fn kizdolur_block_product(a: &[u8], b: &[u8], product: &mut [u8]) -> u8
+pub fn kizdolur_block_product(a: &[u8], b: &[u8], product: &mut [u8]) -> u8
     ensures answer { result ≡ product_answer a.now b.now product.old }
     ensures output { product.new ≡ given result (block_operations.product (block_in a.now) (block_in b.now)) product.old }
 {
@@ -83,8 +82,7 @@ fn block_by(cipher: u8, key: &[u8], plain: &[u8], output: &mut [u8]) -> u8
 
 // AES-128 of one block. Answers 0; 6 where the key is not 16 bytes long; or 2 where the block or the output is not.
 // Refused, the output is as it was.
-#[unsafe(no_mangle)]
-pub extern "C" fn kizdolur_aes128_block(key: &[u8], plain: &[u8], output: &mut [u8]) -> u8
+pub fn kizdolur_aes128_block(key: &[u8], plain: &[u8], output: &mut [u8]) -> u8
     ensures answer { result ≡ cipher_answer key.now plain.now output.old }
     ensures output { output.new ≡ given result (aes_128 key.now (block_in plain.now)) output.old }
 {
@@ -93,8 +91,7 @@ pub extern "C" fn kizdolur_aes128_block(key: &[u8], plain: &[u8], output: &mut [
 }
 
 // Speck128/128 of one block, answered as AES-128 is.
-#[unsafe(no_mangle)]
-pub extern "C" fn kizdolur_speck128_block(key: &[u8], plain: &[u8], output: &mut [u8]) -> u8
+pub fn kizdolur_speck128_block(key: &[u8], plain: &[u8], output: &mut [u8]) -> u8
     ensures answer { result ≡ cipher_answer key.now plain.now output.old }
     ensures output { output.new ≡ given result (speck key.now (block_in plain.now)) output.old }
 {

@@ -111,8 +111,7 @@ fn run_cipher(
 // Enciphers the text of a sector: cipher 1 is AES-128 and 2 Speck128/128, hash 1 is the Horner hash and 2 the BRW hash.
 // Answers 0; 6 for another cipher or hash, or a key that is not 16 bytes long; else the number of the transform's
 // refusal. Refused, the output is as it was. The working bytes are zero afterwards, refused or not.
-#[unsafe(no_mangle)]
-pub extern "C" fn kizdolur_encipher(
+pub fn kizdolur_encipher(
     cipher: u8,
     hash: u8,
     key: &[u8],
@@ -139,8 +138,7 @@ pub extern "C" fn kizdolur_encipher(
 }
 
 // Deciphers the text of a sector, answered as `kizdolur_encipher` is.
-#[unsafe(no_mangle)]
-pub extern "C" fn kizdolur_decipher(
+pub fn kizdolur_decipher(
     cipher: u8,
     hash: u8,
     key: &[u8],
