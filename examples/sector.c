@@ -1,9 +1,8 @@
 /* Enciphers a sector, deciphers it again, and tries a refusal: a caller in C.
  *
- *   rt staticlib capi
- *   cc -I crates/capi/include examples/sector.c target/staticlib/libcapi.a KIT/lib/librattle_c.a -o target/sector-c
- *
- * KIT is the folder above the one of the file that `rt doc` names. */
+ *   tools/staticlib
+ *   cc -I crates/capi/include examples/sector.c target/staticlib/libcapi.a -o target/sector-c
+ */
 #include <stdio.h>
 #include <string.h>
 

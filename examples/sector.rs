@@ -1,10 +1,8 @@
 // Enciphers a sector, deciphers it again, and tries a refusal: a caller in Rust. The functions take each slice as a pointer
 // and then a length, as crates/capi/include/kizdolur.h says; `transform` makes them safe to call.
 //
-//   rt staticlib capi
-//   rustc -O examples/sector.rs -C link-arg=target/staticlib/libcapi.a -C link-arg=KIT/lib/librattle_c.a -o target/sector-rs
-//
-// KIT is the folder above the one of the file that `rt doc` names.
+//   tools/staticlib
+//   rustc -O examples/sector.rs -C link-arg=target/staticlib/libcapi.a -o target/sector-rs
 type Call = unsafe extern "C" fn(
     u8, u8, *const u8, usize, u64, *const u8, usize, *mut u8, usize, *mut u8, usize,
 ) -> u8;

@@ -1,11 +1,10 @@
 #!/usr/bin/env python3
-"""Makes tables of what `rt ci` printed (LOG).
+"""Makes a table of what `rt ci` printed (LOG).
 
-  gate.py planted LOG     docs/planted.md: every planted bug, where it is, and what refused it. An edit that the log does
-                          not have as refused is an error
-  gate.py times LOG       the table of docs/gate.md: the seconds of each crate's proof, edits and tests
+  gate.py planted LOG     every planted bug, where it is, and what refused it. An edit that the log does not have as refused
+                          is an error: the log has to be of a run that tried them all
 
-Run from the repository's root.
+Run from the repository's root. (The gate prints no seconds any more, of which an older table was made.)
 """
 import glob
 import os
@@ -19,7 +18,7 @@ one at a time and demands that the prover refuses each. The last column is where
 function whose promise no longer holds, a definition, or the code itself. `tools/gate.py planted` makes this table from
 the gate's own output.
 """
-LINE = re.compile(r"must-fail (\w+)/(\w+): refused, as it must be \(first at ([^;]*); (\d+) s\)")
+LINE = re.compile(r"must-fail (\w+)/(\w+)\.edit: refused, as it must be[^:]*: (?:note: )?(?:\./)?([^\s:]+:\d+):")
 
 
 def edit(path):
@@ -56,7 +55,7 @@ def shown(crate, place):
 
 
 def crates():
-    return [line.split(":")[0] for line in open("crates.txt") if not line.startswith("#")]
+    return [line.split(":")[0].split()[0] for line in open("crates.txt") if not line.startswith("#")]
 
 
 def planted(log):
@@ -80,19 +79,4 @@ def planted(log):
         sys.exit(f"{missing} edits are not in the log as refused")
 
 
-def times(log):
-    text = open(log, encoding="utf-8", errors="replace").read()
-    rows, totals = [], [0, 0, 0, 0]
-    for crate in crates():
-        proof = sum(int(n) for n in re.findall(rf"^rt: {crate} proved \((\d+) s\)", text, re.M))
-        tests = sum(int(n) for n in re.findall(rf"^rt: {crate}: .*\((\d+) s\)", text, re.M))
-        edits = [int(m[4]) for m in LINE.finditer(text) if m[1] == crate]
-        row = [proof, tests, len(edits), sum(edits)]
-        rows.append([crate] + row)
-        totals = [a + b for a, b in zip(totals, row)]
-    print("| crate | proof, s | tests, s | edits | edits, s |\n|---|---|---|---|---|")
-    for row in rows + [["all"] + totals]:
-        print("| " + " | ".join(str(x) if x else "" for x in row) + " |")
-
-
-{"planted": planted, "times": times}[sys.argv[1]](sys.argv[2])
+{"planted": planted}[sys.argv[1]](sys.argv[2])

@@ -1,5 +1,5 @@
-/* The functions of libcapi.a (made by `rt staticlib capi`). Link librattle_c.a of the toolchain beside it; examples/ has a
- * caller in C and one in Rust.
+/* The functions of libcapi.a (made by `tools/staticlib`). It needs nothing of the toolchain beside it; examples/ has a caller in
+ * C and one in Rust.
  *
  * A byte slice is passed as a pointer and then a length. Nothing is allocated and no state is kept. Slices that are
  * written (product, output, working) must not overlap any other; a slice of length 0 may have any pointer. Each function

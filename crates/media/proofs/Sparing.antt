@@ -75,7 +75,7 @@ module _ (all : List ℕ) (n size spares : ℕ) (bad : List ℕ) (k : ℕ) (belo
     pub ready_state : Ready ≡ state (spared_medium all n size spares bad) k
     ready_state = sym (states ∙ ap (λ o. state_of (lost k o)) there)
 
-    accepted : (len : ℕ) → len ≡ (spared_medium all n size spares bad).size → refusal (spared_medium all n size spares bad) k len ≡ None
+    pub accepted : (len : ℕ) → len ≡ (spared_medium all n size spares bad).size → refusal (spared_medium all n size spares bad) k len ≡ None
     accepted len e = refuses len e ∙ ap (λ o. failure (lost k o)) there
 
     pub place_room : (len : ℕ) → len ≡ (spared_medium all n size spares bad).size → p * len + len ≤ length all

@@ -1,4 +1,4 @@
-ghost use Rattle.std.specs.Prelude.{◌≡◌, ◌≢◌, ℕ, ◌<◌, List, ◌++◌, length as type_size, drop, MatchResult};
+ghost use Rattle.std.specs.Prelude.{◌≡◌, ◌≢◌, ℕ, ◌<◌, List, ◌++◌, length as type_size, drop, None, MatchResult};
 ghost use Rattle.sector.specs.declared.refusal.Refusal.TheVariants.{BufferLength, SectorFailed};
 ghost use Rattle.stores.specs.Layers.{alone, after_write};
 ghost use Rattle.media.specs.Limits.{spared_sound};
@@ -194,10 +194,12 @@ impl SectorStore for SparedMedium<'_> {
         }
     }
 
-    // As every store writes; and of the memory no place changes but the sector's, one in which no sector lies neither.
+    // As every store writes. Of the memory, no byte changes where the write is refused, and no place but the sector's
+    // where it is accepted: none of those in which no sector lies, either.
     fn write(&mut self, n: u64, buffer: &[u8]) -> Result<(), Fault>
         ensures answer { result ≡ outcome (refusal (spared_medium self.old.bytes.now self.old.count self.old.length self.old.spares self.old.bad.now) n (type_size buffer.now)) }
         ensures after { alone (spared_medium self.new.bytes.now self.new.count self.new.length self.new.spares self.new.bad.now) ≡ after_write (refusal (spared_medium self.old.bytes.now self.old.count self.old.length self.old.spares self.old.bad.now) n (type_size buffer.now)) (alone (spared_medium self.old.bytes.now self.old.count self.old.length self.old.spares self.old.bad.now)) n buffer.now }
+        ensures kept { refusal (spared_medium self.old.bytes.now self.old.count self.old.length self.old.spares self.old.bad.now) n (type_size buffer.now) ≢ None → self.new.bytes.now ≡ self.old.bytes.now }
         ensures elsewhere { (p : ℕ) → p ≢ home self.old.count self.old.spares self.old.bad.now n → place self.new.bytes.now self.old.length p ≡ place self.old.bytes.now self.old.length p }
     {
         self.dimensions().admit(n, buffer.len())?;

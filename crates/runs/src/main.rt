@@ -12,6 +12,7 @@ use reading::{Line, read_line};
 use run::{Run, Stage, Tally, Verdict};
 use std::alloc::Global;
 use std::io::{BufRead, BufReader};
+use std::process::ExitCode;
 
 // A line without the LF that ends it.
 fn without_end(line: &str) -> &str {
@@ -71,14 +72,22 @@ fn tell(rt: &HostRuntime, name: u64, verdict: Verdict) -> anyhow::Result<()> {
     Ok(())
 }
 
-fn main(rt: HostRuntime) -> anyhow::Result<()> {
-    let tally = judge(&rt)?;
+// Judges all runs and prints how many agree. It is an error if some differ.
+fn judge_runs(rt: &HostRuntime) -> anyhow::Result<()> {
+    let tally = judge(rt)?;
     let agree = tally.agree;
     let differ = tally.differ;
     println!(rt; "{agree} agree, {differ} differ")?;
-    // an error, of which nothing is printed, ends the program with status 1
     if differ > 0 {
         return Err(anyhow!("some runs differ"));
     }
     Ok(())
+}
+
+// An error, of which nothing is printed, ends the program with status 1.
+fn main(rt: HostRuntime) -> ExitCode {
+    match judge_runs(&rt) {
+        Ok(()) => ExitCode::SUCCESS,
+        Err(_) => ExitCode::FAILURE,
+    }
 }
