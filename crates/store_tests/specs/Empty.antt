@@ -1,5 +1,5 @@
 -- A store with no sectors. Assumes nothing.
-use Rattle.std.specs.Prelude.{◌≡◌, ℕ, min, List, [], None, refl}
+use Rattle.std.specs.Prelude.{ℕ, min, [], None, refl}
 use Rattle.std.proofs.Common.{arith}
 use Rattle.stores.specs.Stores.{Store}
 use Rattle.stores.specs.Layers.{Sound}
