@@ -18,7 +18,7 @@ one at a time and demands that the prover refuses each. The last column is where
 function whose promise no longer holds, a definition, or the code itself. `tools/gate.py planted` makes this table from
 the gate's own output.
 """
-LINE = re.compile(r"must-fail (\w+)/(\w+)\.edit: refused, as it must be[^:]*: (?:note: )?(?:\./)?([^\s:]+:\d+):")
+LINE = re.compile(r"must-fail (\w+)/(\w+)\.edit: refused, as it must be(?: \([^)]*\))?: (?:note: )?(?:\./)?([^\s:]+:\d+):")
 
 
 def edit(path):
@@ -43,7 +43,7 @@ def shown(crate, place):
     """A place in a proof by the function that it is the proof of; a place in the code by the function there."""
     name, _, rest = place.partition(":")
     if name.startswith("proofs/"):
-        return re.sub(r"(/Answers|/Choices)?\.antt$", "", name[len("proofs/"):])
+        return re.sub(r"(/Answers|/Invariants)?\.antt$", "", name[len("proofs/"):])
     if not name.startswith("src/"):
         return name
     lines = open(f"crates/{crate}/{name}", encoding="utf-8").read().splitlines()
