@@ -2,34 +2,36 @@
 use Rattle.std.proofs.Common.{◌≡◌, ℕ, suc, ◌+◌, ◌-◌, ◌<◌, ◌≤◌, List, length, get_or, sym, refl, ap, ◌∙◌, ap₂, arith}
 use Rattle.elements.specs.declared.values.Block.{Block}
 use Rattle.aes_rules.specs.Aes.{Word, add_round_key, round_key, round, last_round, rounds, cipher, input, output, aes_with}
-use Rattle.aes_cipher.specs.Views.{blank_row, row_words, words_of}
+use Rattle.aes_cipher.specs.Views.{row_words, words_of}
 use Rattle.aes_cipher.specs.declared.schedule.RoundKey.{RoundKey}
 use Rattle.aes_cipher.proofs.Rows.{row_is}
 
 module _ (rows : List RoundKey) where
-  key_is : (j : ℕ) → j < length rows → row_words (get_or rows j blank_row) ≡ round_key (words_of rows) j
-  key_is j h = sym (row_is rows j blank_row h)
+  -- a row that was read
+  key_is : (j : ℕ) (k : RoundKey) → j < length rows → k ≡ get_or rows j k → row_words k ≡ round_key (words_of rows) j
+  key_is j k h e = ap row_words e ∙ sym (row_is rows j k h)
 
   pub no_round : (s : List Word) → s ≡ rounds (words_of rows) 0 s
   unfolding rounds
   no_round s = refl
 
   -- one round more
-  pub round_more : (j : ℕ) (start before after : List Word) → 1 ≤ j → j < length rows
-      → before ≡ rounds (words_of rows) (j - 1) start → after ≡ round (row_words (get_or rows j blank_row)) before → after ≡ rounds (words_of rows) (j + 1 - 1) start
+  pub round_more : (j : ℕ) (k : RoundKey) (start before after : List Word) → 1 ≤ j → j < length rows → k ≡ get_or rows j k
+      → before ≡ rounds (words_of rows) (j - 1) start → after ≡ round (row_words k) before → after ≡ rounds (words_of rows) (j + 1 - 1) start
   unfolding rounds
-  round_more j start before after l h p q =
+  round_more j k start before after l h e p q =
       let f : j + 1 - 1 ≡ suc (j - 1) = omega arith in
       let g : suc (j - 1) ≡ j = omega arith in
-      q ∙ ap₂ round (key_is j h ∙ ap (round_key (words_of rows)) (sym g)) p ∙ rw f
+      q ∙ ap₂ round (key_is j k h e ∙ ap (round_key (words_of rows)) (sym g)) p ∙ rw f
 
   -- all of them
-  pub all_rounds : (n j : ℕ) (x : Block) (s₀ s₁ s₂ s₃ : List Word) → n < length rows → j ≡ n
-      → s₀ ≡ input x → s₁ ≡ add_round_key s₀ (row_words (get_or rows 0 blank_row)) → s₂ ≡ rounds (words_of rows) (j - 1) s₁ → s₃ ≡ last_round (row_words (get_or rows n blank_row)) s₂
+  pub all_rounds : (n j : ℕ) (k₀ k : RoundKey) (x : Block) (s₀ s₁ s₂ s₃ : List Word) → n < length rows → j ≡ n
+      → k₀ ≡ get_or rows 0 k₀ → k ≡ get_or rows n k
+      → s₀ ≡ input x → s₁ ≡ add_round_key s₀ (row_words k₀) → s₂ ≡ rounds (words_of rows) (j - 1) s₁ → s₃ ≡ last_round (row_words k) s₂
       → output s₃ ≡ aes_with n (words_of rows) x
   unfolding aes_with cipher
-  all_rounds n j x s₀ s₁ s₂ s₃ h f p₀ p₁ p₂ p₃ =
-      let first : s₁ ≡ add_round_key (input x) (round_key (words_of rows) 0) = p₁ ∙ ap₂ add_round_key p₀ (key_is 0 (omega arith)) in
+  all_rounds n j k₀ k x s₀ s₁ s₂ s₃ h f e₀ e p₀ p₁ p₂ p₃ =
+      let first : s₁ ≡ add_round_key (input x) (round_key (words_of rows) 0) = p₁ ∙ ap₂ add_round_key p₀ (key_is 0 k₀ (omega arith) e₀) in
       let middle : s₂ ≡ rounds (words_of rows) (n - 1) (add_round_key (input x) (round_key (words_of rows) 0)) =
       p₂ ∙ ap₂ (λ (i : ℕ) (s : List Word). rounds (words_of rows) (i - 1) s) f first in
-      ap output (p₃ ∙ ap₂ last_round (key_is n h) middle)
+      ap output (p₃ ∙ ap₂ last_round (key_is n k h e) middle)

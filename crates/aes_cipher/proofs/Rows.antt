@@ -2,32 +2,13 @@
 use Rattle.std.proofs.Common.{◌≡◌, ℕ, zero, suc, ◌+◌, ◌-◌, ◌*◌, ◌/◌, ◌%◌, ◌<◌, ◌≤◌, List, [], ◌∷◌, ◌++◌, length, get_or, set, sym, refl, ap, ◌∙◌, le_of_suc-le-suc, not-suc-le-zero, zero-add, arith}
 use Rattle.std.proofs.lemmas.List.{get_or_append_left, get_or-append_right, set-append_left, set-append_right}
 use Rattle.aes_rules.specs.Aes.{Word, word, round_key}
-use Rattle.aes_cipher.specs.Views.{blank, column_word, row_words, words_of}
-use Rattle.aes_cipher.specs.declared.state.Column.{Column}
+use Rattle.aes_cipher.specs.Views.{row_words, words_of}
 use Rattle.aes_cipher.specs.declared.schedule.RoundKey.{RoundKey}
-use Rattle.aes_cipher.proofs.Words.{each, at_four}
+use Rattle.aes_cipher.proofs.Words.{each}
 
 pub words_length : (rows : List RoundKey) → length (words_of rows) ≡ 4 * length rows
 words_length [] = refl
 words_length (k ∷ ks) = omega (arith, words_length ks)
-
--- word c of a row
-pub word_of_row : (k : RoundKey) (c : ℕ) → c < 4 → column_word (get_or k.columns c blank) ≡ word (row_words k) c
-word_of_row k c h = sym (at_four (λ (n : ℕ). column_word (get_or k.columns n blank)) [] c h)
-
--- word c of a row replaced
-pub put_in_row : (cs : List Column) (c : ℕ) (x : Column) → length cs ≡ 4 → c < 4
-    → row_words (record { columns = set cs c x }) ≡ set (row_words (record { columns = cs })) c (column_word x)
-put_in_row [] c x e h = absurd (omega arith)
-put_in_row (p ∷ []) c x e h = absurd (omega arith)
-put_in_row (p ∷ (q ∷ [])) c x e h = absurd (omega arith)
-put_in_row (p ∷ (q ∷ (r ∷ []))) c x e h = absurd (omega arith)
-put_in_row (p ∷ (q ∷ (r ∷ (s ∷ [])))) zero x e h = refl
-put_in_row (p ∷ (q ∷ (r ∷ (s ∷ [])))) (suc zero) x e h = refl
-put_in_row (p ∷ (q ∷ (r ∷ (s ∷ [])))) (suc (suc zero)) x e h = refl
-put_in_row (p ∷ (q ∷ (r ∷ (s ∷ [])))) (suc (suc (suc zero))) x e h = refl
-put_in_row (p ∷ (q ∷ (r ∷ (s ∷ [])))) (suc (suc (suc (suc c)))) x e h = absurd (omega arith)
-put_in_row (p ∷ (q ∷ (r ∷ (s ∷ (t ∷ ts))))) c x e h = absurd (omega arith)
 
 -- word c of row j
 pub word_in : (rows : List RoundKey) (j c : ℕ) (d : RoundKey) → j < length rows → c < 4

@@ -1,28 +1,25 @@
 -- Words and columns of four. Assumes nothing.
-use Rattle.std.proofs.Common.{◌≡◌, ℕ, zero, suc, ◌<◌, List, [], ◌∷◌, length, get_or, refl, ap, ◌∙◌, arith}
+use Rattle.std.proofs.Common.{◌≡◌, ℕ, ◌<◌, List, [], ◌∷◌, length, get_or, ap}
 use Rattle.std.proofs.lemmas.List.{get_or_default}
 use Rattle.std.specs.Int.Digits.{number_from_digits}
 use Rattle.elements.specs.Values.{byte, block}
 use Rattle.elements.specs.declared.values.Block.{Block}
 use Rattle.elements.specs.declared.values.Byte.{Byte}
-use Rattle.aes_rules.specs.Aes.{Word, four, at, word, values, output}
+use Rattle.aes_rules.specs.Aes.{Word, at, word, values, output}
+use Rattle.aes_cipher.specs.Views.{blank}
+use Rattle.aes_cipher.specs.declared.state.Column.{Column}
 
 -- four by four
 pub each : {A : Type 0} {a b c d e f g h : A} → a ≡ e → b ≡ f → c ≡ g → d ≡ h
     → ◌≡◌ {A = List A} (a ∷ (b ∷ (c ∷ (d ∷ [])))) (e ∷ (f ∷ (g ∷ (h ∷ []))))
 each p q r s = λ i. p i ∷ (q i ∷ (r i ∷ (s i ∷ [])))
 
--- the four at one place
-pub at_four : {A : Type 0} (f : ℕ → A) (d : A) (c : ℕ) → c < 4 → get_or (four f) c d ≡ f c
-at_four f d zero h = refl
-at_four f d (suc zero) h = refl
-at_four f d (suc (suc zero)) h = refl
-at_four f d (suc (suc (suc zero))) h = refl
-at_four f d (suc (suc (suc (suc c)))) h = absurd (omega arith)
+-- within a list the default does not count
+pub read : (w : Word) (r : ℕ) (d : Byte) → r < length w → get_or w r d ≡ at w r
+read w r d h = get_or_default w r d (byte 0) h
 
--- an element read of the list that is w
-pub read : (v w : Word) (r : ℕ) (d : Byte) → v ≡ w → r < length v → get_or v r d ≡ at w r
-read v w r d e h = get_or_default v r d (byte 0) h ∙ ap (λ (u : Word). at u r) e
+pub read_column : (cs : List Column) (c : ℕ) (d : Column) → c < length cs → (get_or cs c d).bytes ≡ (get_or cs c blank).bytes
+read_column cs c d h = ap (λ (x : Column). x.bytes) (get_or_default cs c d blank h)
 
 -- the sixteen bytes of a state
 pub output_is : (s : List Word) (a b c d : List ℕ) (x : Block)

@@ -1,6 +1,6 @@
 ghost use Rattle.std.specs.Prelude.{◌≡◌, ◌*◌, ◌/◌, ◌<◌, ◌≤◌, length, slice_set};
 ghost use Rattle.aes_rules.specs.Aes.{word as word_of, temp as temp_of, next_word, key_expansion};
-ghost use Rattle.aes_cipher.specs.Views.{column_word, row_words, words_of};
+ghost use Rattle.aes_cipher.specs.Views.{row_words, words_of};
 
 use crate::state::Column;
 
@@ -11,10 +11,18 @@ pub struct RoundKey {
 }
 
 impl RoundKey {
+    // Word c of the row.
+    fn word(&self, c: usize) -> Column
+        requires { c < 4 }
+        ensures { result.bytes ≡ word_of (row_words self.now) c }
+    {
+        self.columns[c]
+    }
+
     // Replaces word c of the row.
     fn put(&mut self, c: usize, column: Column)
         requires { c < 4 }
-        ensures { row_words self.new ≡ slice_set (row_words self.old) c (column_word column) }
+        ensures { row_words self.new ≡ slice_set (row_words self.old) c column.bytes }
     {
         self.columns[c] = column;
     }
@@ -23,15 +31,15 @@ impl RoundKey {
 // Word i of the schedule that the rows hold.
 fn word(rows: &[RoundKey], i: usize) -> Column
     requires { i < 4 * length rows.now }
-    ensures { column_word result ≡ word_of (words_of rows.now) i }
+    ensures { result.bytes ≡ word_of (words_of rows.now) i }
 {
-    rows[i / 4].columns[i % 4]
+    rows[i / 4].word(i % 4)
 }
 
 // Replaces word i of the schedule that the rows hold.
 fn put(rows: &mut [RoundKey], i: usize, column: Column)
     requires { i < 4 * length rows.old }
-    ensures { words_of rows.new ≡ slice_set (words_of rows.old) i (column_word column) }
+    ensures { words_of rows.new ≡ slice_set (words_of rows.old) i column.bytes }
 {
     rows[i / 4].put(i % 4, column);
 }
@@ -42,7 +50,7 @@ fn temp(nk: usize, i: usize, before: Column) -> Column
     requires six { nk ≤ 6 }
     requires after { nk ≤ i }
     requires ten { i / nk ≤ 10 }
-    ensures { column_word result ≡ temp_of nk i (column_word before) }
+    ensures { result.bytes ≡ temp_of nk i before.bytes }
 {
     let mut temp = before;
     if i % nk == 0 {
@@ -60,7 +68,7 @@ fn next(nk: usize, key: &[u8], rows: &[RoundKey], i: usize) -> Column
     requires ten { i / nk ≤ 10 }
     requires whole { 4 * nk ≤ length key.now }
     requires within { i < 4 * length rows.now }
-    ensures { column_word result ≡ next_word nk key.now i (words_of rows.now) }
+    ensures { result.bytes ≡ next_word nk key.now i (words_of rows.now) }
 {
     if i < nk {
         return Column::at(key, i);

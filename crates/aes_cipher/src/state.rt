@@ -1,6 +1,7 @@
-ghost use Rattle.std.specs.Prelude.{◌≡◌, ◌+◌, ◌*◌, ◌≤◌, [], ◌∷◌, length, replicate};
+ghost use Rattle.std.specs.Prelude.{◌≡◌, ◌+◌, ◌*◌, ◌<◌, ◌≤◌, [], ◌∷◌, length, replicate};
+ghost use Rattle.elements.specs.Values.{byte};
 ghost use Rattle.aes_rules.specs.Aes.{at as byte_at, coefficients, values, word_at, sub_word, rot_word, add_words, rcon, mix_column, sub_bytes, shift_rows, mix_columns, add_round_key, round as after_round, last_round, input, output};
-ghost use Rattle.aes_cipher.specs.Views.{column_word, columns_of, row_words};
+ghost use Rattle.aes_cipher.specs.Views.{columns_of, row_words};
 
 use crate::schedule::RoundKey;
 use aes_rules::tables::{round_constant, sub_byte};
@@ -8,54 +9,42 @@ use elements::element::Arithmetic;
 use elements::values::{Block, Byte};
 use polynomials::sums::sum_of_products;
 
-// Four bytes: a column of the state, or a word of the key schedule. They are plain numbers, so that no ghost field
-// stands inside a schedule; they become elements of the byte field where its operations are asked for.
+// Four bytes: a column of the state, or a word of the key schedule.
 #[derive(Clone, Copy)]
 pub struct Column {
-    pub bytes: [u8; 4],
+    pub bytes: [Byte; 4],
 }
 
 impl Column {
     // Four zeros.
     pub(crate) fn zero() -> Column
-        ensures { result.bytes ≡ replicate 4 0 }
-    {
-        Column { bytes: [0; 4] }
-    }
-
-    // The column of four elements.
-    fn of(b0: Byte, b1: Byte, b2: Byte, b3: Byte) -> Column
-        ensures { column_word result ≡ b0 ∷ (b1 ∷ (b2 ∷ (b3 ∷ []))) }
+        ensures { result.bytes ≡ replicate 4 (byte 0) }
     {
         Column {
-            bytes: [b0.value, b1.value, b2.value, b3.value],
+            bytes: [Byte::new(0); 4],
         }
     }
 
-    // The bytes as elements.
-    fn elements(&self) -> [Byte; 4]
-        ensures { result ≡ column_word self.now }
+    // The byte in row r.
+    fn byte(&self, r: usize) -> Byte
+        requires { r < 4 }
+        ensures { result ≡ byte_at self.now.bytes r }
     {
-        let [b0, b1, b2, b3] = self.bytes;
-        [Byte::new(b0), Byte::new(b1), Byte::new(b2), Byte::new(b3)]
-    }
-
-    // The bytes as the numbers of their elements.
-    fn values(&self) -> [u8; 4]
-        ensures { result ≡ values (column_word self.now) }
-    {
-        let [b0, b1, b2, b3] = self.elements();
-        [b0.value, b1.value, b2.value, b3.value]
+        self.bytes[r]
     }
 
     // The word of bytes 4 * i to 4 * i + 3.
     pub(crate) fn at(from: &[u8], i: usize) -> Column
         requires { 4 * i + 4 ≤ length from.now }
-        ensures { column_word result ≡ word_at from.now i }
+        ensures { result.bytes ≡ word_at from.now i }
     {
         let k = 4 * i;
+        let b0 = Byte::new(from[k]);
+        let b1 = Byte::new(from[k + 1]);
+        let b2 = Byte::new(from[k + 2]);
+        let b3 = Byte::new(from[k + 3]);
         Column {
-            bytes: [from[k], from[k + 1], from[k + 2], from[k + 3]],
+            bytes: [b0, b1, b2, b3],
         }
     }
 
@@ -63,24 +52,29 @@ impl Column {
     pub(crate) fn of_round(j: usize) -> Column
         requires from { 1 ≤ j }
         requires to { j ≤ 10 }
-        ensures { column_word result ≡ rcon j }
+        ensures { result.bytes ≡ rcon j }
     {
         Column {
-            bytes: [round_constant(j).unwrap().value, 0, 0, 0],
+            bytes: [
+                round_constant(j).unwrap(),
+                Byte::new(0),
+                Byte::new(0),
+                Byte::new(0),
+            ],
         }
     }
 
     // SubBytes of one column, and SubWord.
     pub(crate) fn sub(&mut self)
-        ensures { column_word self.new ≡ sub_word (column_word self.old) }
+        ensures { self.new.bytes ≡ sub_word self.old.bytes }
     {
-        let [b0, b1, b2, b3] = self.elements();
-        *self = Column::of(sub_byte(b0), sub_byte(b1), sub_byte(b2), sub_byte(b3));
+        let [b0, b1, b2, b3] = self.bytes;
+        self.bytes = [sub_byte(b0), sub_byte(b1), sub_byte(b2), sub_byte(b3)];
     }
 
     // RotWord.
     pub(crate) fn rotate(&mut self)
-        ensures { column_word self.new ≡ rot_word (column_word self.old) }
+        ensures { self.new.bytes ≡ rot_word self.old.bytes }
     {
         let [b0, b1, b2, b3] = self.bytes;
         self.bytes = [b1, b2, b3, b0];
@@ -88,11 +82,11 @@ impl Column {
 
     // The sum, byte by byte.
     pub(crate) fn add(&mut self, other: &Column)
-        ensures { column_word self.new ≡ add_words (column_word self.old) (column_word other.now) }
+        ensures { self.new.bytes ≡ add_words self.old.bytes other.now.bytes }
     {
-        let [a0, a1, a2, a3] = self.elements();
-        let [b0, b1, b2, b3] = other.elements();
-        *self = Column::of(a0.add(b0), a1.add(b1), a2.add(b2), a3.add(b3));
+        let [a0, a1, a2, a3] = self.bytes;
+        let [b0, b1, b2, b3] = other.bytes;
+        self.bytes = [a0.add(b0), a1.add(b1), a2.add(b2), a3.add(b3)];
     }
 
     // A row of the matrix of MixColumns.
@@ -104,23 +98,30 @@ impl Column {
 
     // MixColumns of one column.
     pub(crate) fn mix(&mut self)
-        ensures { column_word self.new ≡ mix_column (column_word self.old) }
+        ensures { self.new.bytes ≡ mix_column self.old.bytes }
     {
-        let column = self.elements();
-        let b0 = sum_of_products(&Column::coefficients(2, 3, 1, 1), &column);
-        let b1 = sum_of_products(&Column::coefficients(1, 2, 3, 1), &column);
-        let b2 = sum_of_products(&Column::coefficients(1, 1, 2, 3), &column);
-        let b3 = sum_of_products(&Column::coefficients(3, 1, 1, 2), &column);
-        *self = Column::of(b0, b1, b2, b3);
+        let b0 = sum_of_products(&Column::coefficients(2, 3, 1, 1), &self.bytes);
+        let b1 = sum_of_products(&Column::coefficients(1, 2, 3, 1), &self.bytes);
+        let b2 = sum_of_products(&Column::coefficients(1, 1, 2, 3), &self.bytes);
+        let b3 = sum_of_products(&Column::coefficients(3, 1, 1, 2), &self.bytes);
+        self.bytes = [b0, b1, b2, b3];
+    }
+
+    // The bytes as numbers.
+    fn values(&self) -> [u8; 4]
+        ensures { result ≡ values self.now.bytes }
+    {
+        let [b0, b1, b2, b3] = self.bytes;
+        [b0.value, b1.value, b2.value, b3.value]
     }
 }
 
 // A column of ShiftRows: row r comes from the column r places on.
 fn slanted(c0: &Column, c1: &Column, c2: &Column, c3: &Column) -> Column
-    ensures { column_word result ≡ byte_at (column_word c0.now) 0 ∷ (byte_at (column_word c1.now) 1 ∷ (byte_at (column_word c2.now) 2 ∷ (byte_at (column_word c3.now) 3 ∷ []))) }
+    ensures { result.bytes ≡ byte_at c0.now.bytes 0 ∷ (byte_at c1.now.bytes 1 ∷ (byte_at c2.now.bytes 2 ∷ (byte_at c3.now.bytes 3 ∷ []))) }
 {
     Column {
-        bytes: [c0.bytes[0], c1.bytes[1], c2.bytes[2], c3.bytes[3]],
+        bytes: [c0.byte(0), c1.byte(1), c2.byte(2), c3.byte(3)],
     }
 }
 

@@ -8,8 +8,8 @@ loop-j-init c = no_round c.args.rows.now (columns_of c.add.new.self)
 
 pub loop-j-preserved : goal.loop-j-preserved
 loop-j-preserved c =
-    round_more c.args.rows.now c.loop-j.j (columns_of c.add.new.self) (columns_of c.loop-j.state) (columns_of c.round.new.self)
-    c.loop-j.auto.j (omega arith) c.loop-j.invariant c.round.ensures
+    round_more c.args.rows.now c.loop-j.j c.index-rows-j.result (columns_of c.add.new.self) (columns_of c.loop-j.state) (columns_of c.round.new.self)
+    c.loop-j.auto.j (omega arith) c.index-rows-j.is c.loop-j.invariant c.round.ensures
 
 pub returns : goal.returns
 returns c =
@@ -17,6 +17,6 @@ returns c =
     let n = length rows - 1 in
     let end : c.loop-j.j ≡ n = omega (arith, c.loop-j.auto.j-end (omega arith)) in
     c.block.ensures
-    ∙ all_rounds rows n c.loop-j.j c.args.x
+    ∙ all_rounds rows n c.loop-j.j c.index-rows-0.result c.index-rows-last.result c.args.x
     (columns_of c.of-state.result) (columns_of c.add.new.self) (columns_of c.loop-j.state) (columns_of c.last_round.new.self)
-    (omega arith) end c.of-state.ensures c.add.ensures c.loop-j.invariant c.last_round.ensures
+    (omega arith) end c.index-rows-0.is c.index-rows-last.is c.of-state.ensures c.add.ensures c.loop-j.invariant c.last_round.ensures

@@ -1,7 +1,7 @@
 use Rattle.std.proofs.Common.{◌≡◌, ◌*◌, ◌/◌, ◌<◌, length, refl, arith}
 use Rattle.std.proofs.lemmas.Nat.{div_below}
 use Rattle.aes_rules.specs.Aes.{key_expansion}
-use Rattle.aes_cipher.specs.Views.{column_word, words_of}
+use Rattle.aes_cipher.specs.Views.{words_of}
 use Rattle.aes_rules.proofs.Expansion.{expand_more, expand_all}
 use Rattle.aes_cipher.proofs.Rows.{words_length}
 use Rattle.aes_cipher.proofs.schedule.expand.Goals as goal
@@ -21,7 +21,7 @@ pub loop-i-preserved : goal.loop-i-preserved
 loop-i-preserved c =
     let ws = words_of c.loop-i.rows in
     let h : c.loop-i.i < length ws = omega (arith, words_length c.loop-i.rows) in
-    expand_more c.args.nk c.args.key.now c.loop-i.i ws (words_of c.put.new.rows) (column_word c.next-column.result)
+    expand_more c.args.nk c.args.key.now c.loop-i.i ws (words_of c.put.new.rows) c.next-column.result.bytes
     c.requires.some h c.loop-i.invariant c.next-column.ensures c.put.ensures
 
 pub returns : goal.returns

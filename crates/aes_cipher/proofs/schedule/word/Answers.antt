@@ -1,10 +1,11 @@
-use Rattle.std.proofs.Common.{◌/◌, ◌%◌, get_or, arith}
-use Rattle.aes_cipher.specs.Views.{blank_row}
-use Rattle.aes_cipher.proofs.Rows.{word_here, word_of_row}
+use Rattle.std.proofs.Common.{◌%◌, ap, ◌∙◌}
+use Rattle.aes_rules.specs.Aes.{word}
+use Rattle.aes_cipher.specs.Views.{row_words}
+use Rattle.aes_cipher.specs.declared.schedule.RoundKey.{RoundKey}
+use Rattle.aes_cipher.proofs.Rows.{word_here}
 use Rattle.aes_cipher.proofs.schedule.word.Goals as goal
 
 pub returns : goal.returns
 returns c =
-    let rows = c.args.rows.now in
-    let i = c.args.i in
-    word_here rows i blank_row c.requires _ (word_of_row (get_or rows (i / 4) blank_row) (i % 4) (omega arith))
+    word_here c.args.rows.now c.args.i c.index-rows-i.result c.requires c.word.result.bytes
+    (c.word.ensures ∙ ap (λ (r : RoundKey). word (row_words r) (c.args.i % 4)) c.index-rows-i.is)

@@ -1,4 +1,4 @@
-use Rattle.std.proofs.Common.{ℕ, ◌*◌, get_or, sym, refl, ap, add-zero}
+use Rattle.std.proofs.Common.{ℕ, ◌*◌, get_or, sym, ap, ◌∙◌, add-zero}
 use Rattle.elements.specs.Values.{byte}
 use Rattle.aes_rules.specs.Aes.{word_at}
 use Rattle.aes_cipher.proofs.Words.{each}
@@ -6,4 +6,6 @@ use Rattle.aes_cipher.proofs.state.Column.at.Goals as goal
 
 pub returns : goal.returns
 unfolding word_at
-returns c = each (ap (λ (k : ℕ). byte (get_or c.args.from.now k 0)) (sym (add-zero (4 * c.args.i)))) refl refl refl
+returns c =
+    each (c.new-b0.ensures ∙ ap (λ (k : ℕ). byte (get_or c.args.from.now k 0)) (sym (add-zero (4 * c.args.i))))
+    c.new-b1.ensures c.new-b2.ensures c.new-b3.ensures

@@ -1,5 +1,4 @@
-use Rattle.std.proofs.Common.{is_some, sym, refl, ap, ◌∙◌}
-use Rattle.elements.specs.Instances.{byte_whole}
+use Rattle.std.proofs.Common.{is_some, sym, ap, ◌∙◌}
 use Rattle.aes_rules.specs.Aes.{rcon}
 use Rattle.aes_rules.proofs.Rules.{constant_some, constant_is}
 use Rattle.aes_cipher.proofs.Words.{each}
@@ -11,5 +10,5 @@ unwrap-requires c = ap is_some (c.round_constant.ensures ∙ constant_some c.arg
 pub returns : goal.returns
 unfolding rcon
 returns c =
-    each (byte_whole c.unwrap.result
-    ∙ constant_is c.args.j c.unwrap.result c.requires.from c.requires.to (sym c.round_constant.ensures ∙ c.unwrap.ensures)) refl refl refl
+    each (constant_is c.args.j c.unwrap.result c.requires.from c.requires.to (sym c.round_constant.ensures ∙ c.unwrap.ensures))
+    c.new.ensures c.new-2.ensures c.new-3.ensures
