@@ -6,7 +6,7 @@ use crate::views::Repeated;
 use elements::values::Degree;
 
 // The degrees of Horner and BRW of so many blocks.
-#[derive(Clone, Copy)]
+#[derive(Clone, Copy, Debug, PartialEq, Eq)]
 pub struct Degrees {
     pub horner: Degree,
     pub brw: Degree,

@@ -6,7 +6,7 @@ use elements::values::Block;
 
 // A list of blocks that lies as bytes, 16 to a block, and is read where it lies. What is left over at the end is
 // no part of the list.
-#[derive(Clone, Copy)]
+#[derive(Clone, Copy, Debug, PartialEq, Eq)]
 pub struct Blocks<'a> {
     pub bytes: &'a [u8],
 }
@@ -29,7 +29,7 @@ impl<'a> Elements<Block> for Blocks<'a> {
 }
 
 // A list of one element, `count` times.
-#[derive(Clone, Copy)]
+#[derive(Clone, Copy, Debug, PartialEq, Eq)]
 pub struct Repeated<E> {
     pub element: E,
     pub count: usize,
