@@ -1,3 +1,4 @@
 pub mod Endians
 pub mod Masks
 pub mod Reduction
+pub mod Made

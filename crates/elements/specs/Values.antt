@@ -8,6 +8,15 @@ use Rattle.elements.specs.declared.values.Block.{Block}
 use Rattle.elements.specs.declared.values.Byte.{Byte}
 use Rattle.elements.specs.declared.values.Degree.{Degree}
 
+-- the binary field of the polynomials reduced by z ^ w + r, of a type whose elements are made of their bits
+abbrev pub field_operations : {E : Type 0} → ℕ → ℕ → (E → ℕ) → (ℕ → E) → Operations E
+field_operations w r bits of = record {
+  zero = of 0;
+  one = of 1;
+  sum = λ x y. of (bit_xor (bits x) (bits y));
+  product = λ x y. of (times w r w (bits x) (bits y));
+}
+
 -- the byte of a number, of which the low 8 bits count
 abbrev pub byte : ℕ → Byte
 byte n = record { value = n % 2 ^ 8; fits = mod-lt n (pow_pos 8) }

@@ -1,14 +1,21 @@
 ghost use Rattle.std.specs.Prelude.{◌≡◌, ℕ, ◌/◌, ◌%◌, bit_xor};
 ghost use Rattle.elements.specs.Field.{pick, double as doubled, times as product};
+ghost use Rattle.elements.specs.Operations.{Laws};
+ghost use Rattle.elements.specs.Values.{field_operations};
 
-// A word of bits as a polynomial reduced by z^width + feedback: what the product is worked out with.
-// No operation branches on the bits of a word.
-pub trait Word: Copy {
+use crate::element::{Arithmetic, Element};
+
+// A binary field: the polynomials over bits, reduced by z^width + feedback. These are what its sum and its product
+// are worked out with. No operation branches on the bits of an element.
+pub trait BinaryField: Copy {
     ghost width: { ℕ };
 
     ghost feedback: { ℕ };
 
     ghost bits: { Self → ℕ };
+
+    // The element with these bits, of which the low ones count.
+    ghost of: { ℕ → Self };
 
     // The number of bits.
     fn width() -> u32
@@ -18,10 +25,14 @@ pub trait Word: Copy {
     fn none() -> Self
         ensures { bits result ≡ 0 };
 
+    // The last bit alone.
+    fn last() -> Self
+        ensures { bits result ≡ 1 };
+
     fn xor(self, other: Self) -> Self
         ensures { bits result ≡ bit_xor (bits self) (bits other) };
 
-    // The other word where the last bit is 1, and no bit where it is 0.
+    // The other element where the last bit is 1, and no bit where it is 0.
     fn last_picks(self, other: Self) -> Self
         ensures { bits result ≡ pick (bits self % 2) (bits other) };
 
@@ -32,16 +43,21 @@ pub trait Word: Copy {
     // Times z, reduced.
     fn double(self) -> Self
         ensures { bits result ≡ doubled width feedback (bits self) };
+
+    // An element is the one with its bits.
+    ghost whole: { (x : Self) → of (bits x) ≡ x };
+
+    ghost laws: { Laws (field_operations width feedback bits of) };
 }
 
-// The product of two words, by doubling and adding alone.
-pub fn times<W: Word>(x: W, y: W) -> W
-    ensures { W.bits result ≡ product W.width W.feedback W.width (W.bits x) (W.bits y) }
+// The product of two elements, by doubling and adding alone.
+fn times<F: BinaryField>(x: F, y: F) -> F
+    ensures { F.bits result ≡ product F.width F.feedback F.width (F.bits x) (F.bits y) }
 {
-    let mut sum = W::none();
+    let mut sum = F::none();
     let mut rest = x;
     let mut power = y;
-    for i in 0..W::width() {
+    for _ in 0..F::width() {
         sum = sum.xor(rest.last_picks(power));
         rest = rest.half();
         power = power.double();
@@ -49,68 +65,26 @@ pub fn times<W: Word>(x: W, y: W) -> W
     sum
 }
 
-// Reduced by z^8 + z^4 + z^3 + z + 1.
-impl Word for u8 {
-    ghost width = { 8 };
+impl<F: BinaryField> Arithmetic for F {
+    ghost operations = { field_operations F.width F.feedback F.bits F.of };
 
-    ghost feedback = { 0x1b };
-
-    ghost bits = { λ x. x };
-
-    fn width() -> u32 {
-        8
+    fn zero() -> F {
+        F::none()
     }
 
-    fn none() -> u8 {
-        0
+    fn one() -> F {
+        F::last()
     }
 
-    fn xor(self, other: u8) -> u8 {
-        self ^ other
+    fn add(self, other: F) -> F {
+        self.xor(other)
     }
 
-    fn last_picks(self, other: u8) -> u8 {
-        other & 0u8.wrapping_sub(self % 2)
-    }
-
-    fn half(self) -> u8 {
-        self / 2
-    }
-
-    fn double(self) -> u8 {
-        (self << 1) ^ (self >> 7).last_picks(0x1b)
+    fn mul(self, other: F) -> F {
+        times(self, other)
     }
 }
 
-// Reduced by z^128 + z^7 + z^2 + z + 1.
-impl Word for u128 {
-    ghost width = { 128 };
-
-    ghost feedback = { 0x87 };
-
-    ghost bits = { λ x. x };
-
-    fn width() -> u32 {
-        128
-    }
-
-    fn none() -> u128 {
-        0
-    }
-
-    fn xor(self, other: u128) -> u128 {
-        self ^ other
-    }
-
-    fn last_picks(self, other: u128) -> u128 {
-        other & 0u128.wrapping_sub(self % 2)
-    }
-
-    fn half(self) -> u128 {
-        self / 2
-    }
-
-    fn double(self) -> u128 {
-        (self << 1) ^ (self >> 127).last_picks(0x87)
-    }
+impl<F: BinaryField> Element for F {
+    ghost laws = { F.laws };
 }

@@ -1,5 +1,4 @@
 ghost use Rattle.std.specs.Prelude.{◌≡◌, Some};
-ghost use Rattle.elements.specs.Degrees.{larger, added};
 ghost use Rattle.elements.specs.Values.{degree, degree_operations, degree_text};
 ghost use Rattle.elements.specs.Instances.{degree_laws};
 
@@ -15,26 +14,6 @@ impl Degree {
     }
 }
 
-fn larger_of(x: Option<u32>, y: Option<u32>) -> Option<u32>
-    ensures { result ≡ larger x y }
-{
-    match (x, y) {
-        (Some(a), Some(b)) => Some(a.max(b)),
-        (Some(a), None) => Some(a),
-        (None, _) => y,
-    }
-}
-
-fn sum_of(x: Option<u32>, y: Option<u32>) -> Option<u32>
-    ensures { result ≡ added x y }
-{
-    match (x, y) {
-        (Some(a), Some(b)) => Some(a.saturating_add(b)),
-        (Some(_), None) => None,
-        (None, _) => None,
-    }
-}
-
 impl Arithmetic for Degree {
     ghost operations = { degree_operations };
 
@@ -47,11 +26,13 @@ impl Arithmetic for Degree {
     }
 
     fn add(self, other: Degree) -> Degree {
-        Degree::new(larger_of(self.value, other.value))
+        // None is below every number
+        Degree::new(self.value.max(other.value))
     }
 
     fn mul(self, other: Degree) -> Degree {
-        Degree::new(sum_of(self.value, other.value))
+        let both = self.value.zip(other.value);
+        Degree::new(both.map(|(a, b)| a.saturating_add(b)))
     }
 }
 

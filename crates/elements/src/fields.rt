@@ -1,11 +1,10 @@
 ghost use Rattle.std.specs.Prelude.{◌≡◌};
 ghost use Rattle.std.specs.Int.Digits.{number_from_digits};
 ghost use Rattle.elements.specs.Endian.{big_endian};
-ghost use Rattle.elements.specs.Values.{byte, byte_operations, block, block_operations, block_double};
-ghost use Rattle.elements.specs.Instances.{byte_laws, block_laws};
+ghost use Rattle.elements.specs.Values.{byte, block, block_operations, block_double};
+ghost use Rattle.elements.specs.Instances.{byte_whole, byte_laws, block_whole, block_laws};
 
-use crate::bits::{Word, times};
-use crate::element::{Arithmetic, Element};
+use crate::bits::BinaryField;
 use crate::values::{Block, Byte};
 
 impl Byte {
@@ -16,28 +15,48 @@ impl Byte {
     }
 }
 
-impl Arithmetic for Byte {
-    ghost operations = { byte_operations };
+// Reduced by z^8 + z^4 + z^3 + z + 1.
+impl BinaryField for Byte {
+    ghost width = { 8 };
 
-    fn zero() -> Byte {
+    ghost feedback = { 0x1b };
+
+    ghost bits = { λ x. x.value };
+
+    ghost of = { byte };
+
+    ghost whole = { byte_whole };
+
+    ghost laws = { byte_laws };
+
+    fn width() -> u32 {
+        8
+    }
+
+    fn none() -> Byte {
         Byte::new(0)
     }
 
-    fn one() -> Byte {
+    fn last() -> Byte {
         Byte::new(1)
     }
 
-    fn add(self, other: Byte) -> Byte {
+    fn xor(self, other: Byte) -> Byte {
         Byte::new(self.value ^ other.value)
     }
 
-    fn mul(self, other: Byte) -> Byte {
-        Byte::new(times(self.value, other.value))
+    fn last_picks(self, other: Byte) -> Byte {
+        Byte::new(other.value & 0u8.wrapping_sub(self.value % 2))
     }
-}
 
-impl Element for Byte {
-    ghost laws = { byte_laws };
+    fn half(self) -> Byte {
+        Byte::new(self.value / 2)
+    }
+
+    fn double(self) -> Byte {
+        let first = Byte::new(self.value >> 7);
+        Byte::new(self.value << 1).xor(first.last_picks(Byte::new(0x1b)))
+    }
 }
 
 impl Block {
@@ -67,30 +86,51 @@ impl Block {
         ensures value { result ≡ block_double self }
         ensures product { result ≡ block_operations.product (block 2) self }
     {
-        Block::new(self.value.double())
+        BinaryField::double(self)
     }
 }
 
-impl Arithmetic for Block {
-    ghost operations = { block_operations };
+// Reduced by z^128 + z^7 + z^2 + z + 1. The bodies are not shared with `Byte`: over std's operator traits each
+// operator needs a law that says what it gives of the bits, which is longer than they are.
+impl BinaryField for Block {
+    ghost width = { 128 };
 
-    fn zero() -> Block {
+    ghost feedback = { 0x87 };
+
+    ghost bits = { λ x. x.value };
+
+    ghost of = { block };
+
+    ghost whole = { block_whole };
+
+    ghost laws = { block_laws };
+
+    fn width() -> u32 {
+        128
+    }
+
+    fn none() -> Block {
         Block::new(0)
     }
 
-    fn one() -> Block {
+    fn last() -> Block {
         Block::new(1)
     }
 
-    fn add(self, other: Block) -> Block {
+    fn xor(self, other: Block) -> Block {
         Block::new(self.value ^ other.value)
     }
 
-    fn mul(self, other: Block) -> Block {
-        Block::new(times(self.value, other.value))
+    fn last_picks(self, other: Block) -> Block {
+        Block::new(other.value & 0u128.wrapping_sub(self.value % 2))
     }
-}
 
-impl Element for Block {
-    ghost laws = { block_laws };
+    fn half(self) -> Block {
+        Block::new(self.value / 2)
+    }
+
+    fn double(self) -> Block {
+        let first = Block::new(self.value >> 127);
+        Block::new(self.value << 1).xor(first.last_picks(Block::new(0x87)))
+    }
 }

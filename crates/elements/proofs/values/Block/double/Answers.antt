@@ -1,9 +1,10 @@
 use Rattle.std.proofs.Common.{sym, ap, ◌∙◌}
 use Rattle.elements.specs.Values.{block}
+use Rattle.elements.specs.Instances.{block_whole}
 use Rattle.elements.specs.Powers.{times_two}
 use Rattle.elements.proofs.values.Block.double.Goals as goal
 
 pub returns : goal.returns
 returns c =
-    let value = c.new.ensures ∙ ap block c.double.ensures in
+    let value = sym (block_whole _) ∙ ap block c.double.ensures in
     record { value = value; product = value ∙ ap block (sym (times_two 128 135 126 c.args.self.value)) }
