@@ -1,5 +1,5 @@
 -- The values of bytes and blocks that are made of numbers. Assumes nothing.
-use Rattle.std.proofs.Common.{◌≡◌, ℕ, zero, suc, ◌^◌, ◌<◌, ap, ◌∙◌, mod-eq_of_lt, subst, sym, arith}
+use Rattle.std.proofs.Common.{◌≡◌, ℕ, zero, suc, ◌^◌, ◌<◌, ap, ◌∙◌, mod-eq_of_lt, arith}
 use Rattle.elements.specs.Field.{pick}
 use Rattle.elements.specs.Values.{byte, block}
 use Rattle.elements.specs.declared.values.Byte.{Byte}

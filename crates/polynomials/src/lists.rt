@@ -24,7 +24,7 @@ impl<'a, E: Copy> Elements<E> for &'a [E] {
 
     fn get(&self, i: usize) -> Option<E> {
         let s = *self;
-        if i < s.len() { Some(s[i]) } else { None }
+        s.get(i).copied()
     }
 }
 

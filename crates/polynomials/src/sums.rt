@@ -57,12 +57,14 @@ pub fn horner<E: Element, L: Elements<E>>(key: E, xs: &L) -> E
 fn fill_squares<E: Arithmetic>(key: E, table: &mut [E])
     ensures { Squares E.Arithmetic.operations key table.new }
 {
-    if table.len() == 0 {
+    let Some((first, rest)) = table.split_first_mut() else {
         return;
-    }
-    table[0] = key;
-    for i in 1..table.len() {
-        table[i] = table[i - 1].mul(table[i - 1]);
+    };
+    *first = key;
+    let mut power = key;
+    for place in rest {
+        power = power.mul(power);
+        *place = power;
     }
 }
 
@@ -73,50 +75,51 @@ fn levels(m: usize) -> usize
     if m < 3 { 1 } else { m.ilog2() as usize + 1 }
 }
 
-// The key to the power 2^k, from the table.
-fn power_at<E: Arithmetic>(key: E, powers: &[E], k: usize) -> E
-    requires squares { Squares E.Arithmetic.operations key powers.now }
-    requires within { k < length powers.now }
-    ensures { result ≡ squared E.Arithmetic.operations key k }
-{
-    powers[k]
+// The key, and the table of its powers 1, 2, 4, ..
+#[derive(Drop)]
+struct Powers<'a, E: Arithmetic> {
+    key: E,
+    table: &'a [E],
+    ghost squares: { ∥ Squares E.Arithmetic.operations key table.now ∥₁ },
 }
 
-// BRW of the elements from index `from` on and before `to`, with the powers of the key handed down.
-fn brw_part<E: Arithmetic, L: Elements<E>>(
-    key: E,
-    powers: &[E],
-    xs: &L,
-    from: usize,
-    to: usize,
-) -> E
-    requires squares { Squares E.Arithmetic.operations key powers.now }
-    requires enough { 3 ≤ to - from → to - from < 2 ^ length powers.now }
+impl<'a, E: Arithmetic> Powers<'a, E> {
+    // The key to the power 2^k.
+    fn at(&self, k: usize) -> E
+        requires { k < length self.now.table.now }
+        ensures { result ≡ squared E.Arithmetic.operations self.now.key k }
+    {
+        self.table[k]
+    }
+}
+
+// BRW of the elements from index `from` on and before `to`.
+fn brw_part<E: Arithmetic, L: Elements<E>>(powers: &Powers<E>, xs: &L, from: usize, to: usize) -> E
+    requires enough { 3 ≤ to - from → to - from < 2 ^ length powers.now.table.now }
     requires forward { from ≤ to }
     requires within { to ≤ length (L.items xs.now) }
-    ensures { result ≡ squared_brw E.Arithmetic.operations key (take (to - from) (drop from (L.items xs.now))) }
+    ensures { result ≡ squared_brw E.Arithmetic.operations powers.now.key (take (to - from) (drop from (L.items xs.now))) }
 {
+    let key = powers.key;
     let m = to - from;
-    if m == 0 {
-        return E::zero();
+    match m {
+        0 => E::zero(),
+        1 => element(xs, from),
+        2 => element(xs, from).mul(key).add(element(xs, from + 1)),
+        3 => {
+            let low = element(xs, from).add(key);
+            let middle = element(xs, from + 1).add(powers.at(1));
+            low.mul(middle).add(element(xs, from + 2))
+        }
+        _ => {
+            let k = m.ilog2();
+            let p = 1usize << k;
+            let low = brw_part(powers, xs, from, from + p - 1);
+            let middle = element(xs, from + p - 1).add(powers.at(k as usize));
+            let high = brw_part(powers, xs, from + p, to);
+            low.mul(middle).add(high)
+        }
     }
-    if m == 1 {
-        return element(xs, from);
-    }
-    if m == 2 {
-        return element(xs, from).mul(key).add(element(xs, from + 1));
-    }
-    if m == 3 {
-        let low = element(xs, from).add(key);
-        let middle = element(xs, from + 1).add(power_at(key, powers, 1));
-        return low.mul(middle).add(element(xs, from + 2));
-    }
-    let k = m.ilog2();
-    let p = 1usize << k;
-    let low = brw_part(key, powers, xs, from, from + p - 1);
-    let middle = element(xs, from + p - 1).add(power_at(key, powers, k as usize));
-    let high = brw_part(key, powers, xs, from + p, to);
-    low.mul(middle).add(high)
 }
 
 // BRW with the powers of the key by repeated squaring. It asks for no law, so that a type that counts can be put in.
@@ -130,8 +133,12 @@ pub fn brw_by_squares<E: Arithmetic, L: Elements<E>>(key: E, powers: &mut [E], x
     if n > powers.len() {
         return None;
     }
-    fill_squares(key, &mut powers[0..n]);
-    Some(brw_part(key, &powers[0..n], xs, 0, m))
+    fill_squares(key, &mut powers[..n]);
+    let powers = Powers {
+        key,
+        table: &powers[..n],
+    };
+    Some(brw_part(&powers, xs, 0, m))
 }
 
 // BRW at `key`. `powers` is room for the key's powers, log2 m + 1 of them from m = 3 elements on and one before;

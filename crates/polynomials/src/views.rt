@@ -19,12 +19,8 @@ impl<'a> Elements<Block> for Blocks<'a> {
     }
 
     fn get(&self, i: usize) -> Option<Block> {
-        if i >= self.bytes.len() / 16 {
-            return None;
-        }
-        let mut piece = [0; 16];
-        piece.copy_from_slice(&self.bytes[16 * i..16 * i + 16]);
-        Some(Block::from_bytes(piece))
+        let (pieces, _) = self.bytes.as_chunks();
+        pieces.get(i).copied().map(Block::from_bytes)
     }
 }
 
@@ -43,10 +39,6 @@ impl<E: Copy> Elements<E> for Repeated<E> {
     }
 
     fn get(&self, i: usize) -> Option<E> {
-        if i < self.count {
-            Some(self.element)
-        } else {
-            None
-        }
+        (i < self.count).then_some(self.element)
     }
 }

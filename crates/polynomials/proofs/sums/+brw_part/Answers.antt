@@ -5,54 +5,51 @@ use Rattle.polynomials.proofs.Logs.{exponent_lt}
 use Rattle.polynomials.proofs.Parts.{part_length}
 use Rattle.polynomials.proofs.sums.+brw_part.Goals as goal
 
-pub returns-then-m-eq0 : goal.returns-then-m-eq0
-returns-then-m-eq0 g t c =
+pub returns-in-0 : goal.returns-in-0
+returns-in-0 g t c =
     let xs = g.L.Elements.items c.args.xs.now in
     c.zero.ensures
-    ∙ sym (none g.E.Arithmetic.operations c.args.key (take (c.args.to - c.args.from) (drop c.args.from xs)) (part_length xs c.args.from c.args.to (omega arith) (omega arith) ∙ c.if-m-eq0.true))
+    ∙ sym (none g.E.Arithmetic.operations c.args.powers.now.key (take (c.args.to - c.args.from) (drop c.args.from xs)) (part_length xs c.args.from c.args.to (omega arith) (omega arith) ∙ c.in-0.is))
 
-pub returns-then-m-eq1 : goal.returns-then-m-eq1
-returns-then-m-eq1 g t c =
-    part_one g.E.Arithmetic.operations c.args.key (g.L.Elements.items c.args.xs.now) c.args.from c.args.to c.element.result (omega arith) (omega arith) c.element.ensures
+pub returns-in-1 : goal.returns-in-1
+returns-in-1 g t c =
+    part_one g.E.Arithmetic.operations c.args.powers.now.key (g.L.Elements.items c.args.xs.now) c.args.from c.args.to c.element.result c.in-1.is (omega arith) c.element.ensures
 
-pub returns-then-m-eq2 : goal.returns-then-m-eq2
-returns-then-m-eq2 g t c =
+pub returns-in-2 : goal.returns-in-2
+returns-in-2 g t c =
     let o = g.E.Arithmetic.operations in
-    let x = c.element-then-m-eq2 in
-    let y = c.element-then-m-eq2-2 in
+    let x = c.element-in-2 in
+    let y = c.element-in-2-2 in
     c.add.ensures ∙ ap (λ e. o.sum e y.result) c.mul.ensures
-    ∙ part_two o c.args.key (g.L.Elements.items c.args.xs.now) c.args.from c.args.to x.result y.result (omega arith) (omega arith) x.ensures y.ensures
+    ∙ part_two o c.args.powers.now.key (g.L.Elements.items c.args.xs.now) c.args.from c.args.to x.result y.result c.in-2.is (omega arith) x.ensures y.ensures
 
-pub power_at-requires : goal.power_at-requires
-power_at-requires g t c =
-    let m : c.args.to - c.args.from ≡ 3 = c.if-m-eq3.true in
-    record { squares = c.requires.squares; within = exponent_lt 3 1 (length c.args.powers.now) (omega arith) (omega (arith, c.requires.enough (omega arith))) }
-
-pub returns-then-m-eq3 : goal.returns-then-m-eq3
-returns-then-m-eq3 g t c =
+pub returns-in-3 : goal.returns-in-3
+returns-in-3 g t c =
     let o = g.E.Arithmetic.operations in
-    let x = c.element-then-m-eq3 in
-    let y = c.element-then-m-eq3-2 in
-    let z = c.element-then-m-eq3-3 in
+    let x = c.element-in-3 in
+    let y = c.element-in-3-2 in
+    let z = c.element-in-3-3 in
     let low = c.add-low.ensures in
-    let middle = c.add-middle.ensures ∙ ap (o.sum y.result) c.power_at.ensures in
-    c.add-then-m-eq3.ensures ∙ ap (λ e. o.sum e z.result) (c.mul-then-m-eq3.ensures ∙ ap₂ o.product low middle)
-    ∙ part_three o c.args.key (g.L.Elements.items c.args.xs.now) c.args.from c.args.to x.result y.result z.result
-    (omega arith) (omega arith) x.ensures y.ensures z.ensures
+    let middle = c.add-middle.ensures ∙ ap (o.sum y.result) c.at.ensures in
+    c.add-in-3.ensures ∙ ap (λ e. o.sum e z.result) (c.mul-in-3.ensures ∙ ap₂ o.product low middle)
+    ∙ part_three o c.args.powers.now.key (g.L.Elements.items c.args.xs.now) c.args.from c.args.to x.result y.result z.result
+    c.in-3.is (omega arith) x.ensures y.ensures z.ensures
 
-pub power_at-requires-2 : goal.power_at-requires-2
-power_at-requires-2 g t c = record {
-  squares = c.requires.squares;
-  within = exponent_lt (c.args.to - c.args.from) c.ilog2-k.result (length c.args.powers.now) c.ilog2-k.ensures.power_le (c.requires.enough (omega arith));
-}
+pub at-requires-in_default : goal.at-requires-in_default
+at-requires-in_default g t c =
+    exponent_lt (c.args.to - c.args.from) c.ilog2-k.result (length c.args.powers.now.table.now) c.ilog2-k.ensures.power_le (c.requires.enough (omega arith))
 
-pub returns : goal.returns
-returns g t c =
+pub returns-in_default : goal.returns-in_default
+returns-in_default g t c =
     let o = g.E.Arithmetic.operations in
     let k = c.ilog2-k.result in
     let T : ℕ = (1 * 2 ^ k) % 2 ^ 64 in
     let is : T ≡ 2 ^ k = one_shl k 64 c.ilog2-k.ensures.bound in
-    c.add-2.ensures ∙ ap (λ e. o.sum e c.brw_part-high.result) (c.mul-2.ensures ∙ ap (o.product c.brw_part-low.result) c.add-middle-2.ensures)
-    ∙ part_more o c.args.key (g.L.Elements.items c.args.xs.now) c.args.from c.args.to T k c.brw_part-low.result c.element-2.result c.power_at-2.result c.brw_part-high.result
+    let low = c.brw_part-low in
+    let high = c.brw_part-high in
+    let x = c.element-in_default in
+    let power = c.at-in_default in
+    c.add-in_default.ensures ∙ ap (λ e. o.sum e high.result) (c.mul-in_default.ensures ∙ ap (o.product low.result) c.add-middle-in_default.ensures)
+    ∙ part_more o c.args.powers.now.key (g.L.Elements.items c.args.xs.now) c.args.from c.args.to T k low.result x.result power.result high.result
     (omega arith) (omega arith) is c.ilog2-k.ensures.power_le c.ilog2-k.ensures.next_power_gt
-    c.brw_part-low.ensures c.element-2.ensures c.power_at-2.ensures c.brw_part-high.ensures
+    low.ensures x.ensures power.ensures high.ensures

@@ -1,26 +1,24 @@
-use Rattle.std.proofs.Common.{◌≡◌, ◌-◌, get_or, set, subst, arith}
-use Rattle.std.proofs.lemmas.List.{get_or-set_same, get_or_default}
-use Rattle.polynomials.specs.Sums.{Squares}
-use Rattle.polynomials.proofs.Brw.{squares_none, squares_first, squares_next, squares_all}
+use Rattle.std.proofs.Common.{◌≡◌, suc, sym, refl, ap, ◌∙◌, ap₂, add-one, arith}
+use Rattle.polynomials.specs.Sums.{squared}
+use Rattle.polynomials.proofs.Brw.{squares_none, squares_next, squares_all}
 use Rattle.polynomials.proofs.sums.fill_squares.Goals as goal
 
-pub returns-then-table-eq0 : goal.returns-then-table-eq0
-returns-then-table-eq0 g c = squares_none g.E.Arithmetic.operations c.args.key c.args.table.now (omega arith)
+pub returns-in_default : goal.returns-in_default
+returns-in_default g c = squares_none g.E.Arithmetic.operations c.args.key c.args.table.now c.in_default.ensures.cases
 
-pub loop-i-init : goal.loop-i-init
-loop-i-init g c = squares_first g.E.Arithmetic.operations (set c.args.table.now 0 c.args.key)
+pub loop-place-init : goal.loop-place-init
+loop-place-init g c = record { power = refl; filled = λ j h. absurd (omega arith) }
 
-pub loop-i-preserved : goal.loop-i-preserved
-loop-i-preserved g c =
+pub loop-place-preserved : goal.loop-place-preserved
+loop-place-preserved g c =
     let o = g.E.Arithmetic.operations in
-    -- by no name of either element that is read, so that an edit which reads another is refused by this fact
-    let squared : c.mul.result ≡ o.product (get_or c.loop-i.table (c.loop-i.i - 1) o.zero) (get_or c.loop-i.table (c.loop-i.i - 1) o.zero) = grind (arith, get_or_default) in
-    squares_next o (get_or (set c.args.table.now 0 c.args.key) 0 o.zero) c.loop-i.table c.loop-i.i c.mul.result
-    o.zero o.zero (omega arith) (omega arith) c.loop-i.invariant squared
+    let l = c.loop-place in
+    let i = l.place-index in
+    let power : c.mul-power.result ≡ squared o c.args.key (suc i) = c.mul-power.ensures ∙ ap₂ o.product l.invariant.power l.invariant.power in
+    record {
+      power = power ∙ ap (squared o c.args.key) (sym (add-one i));
+      filled = squares_next o c.args.key l.place-items i c.mul-power.result (omega arith) power l.invariant.filled;
+    }
 
 pub returns : goal.returns
-returns g c =
-    let o = g.E.Arithmetic.operations in
-    subst (λ e. Squares o e c.loop-i.table)
-    (get_or-set_same c.args.table.now 0 c.args.key o.zero (omega arith))
-    (squares_all o _ c.loop-i.table c.loop-i.i (omega arith) c.loop-i.invariant)
+returns g c = squares_all g.E.Arithmetic.operations c.args.key c.loop-place.place-items c.loop-place.place-index (omega arith) c.loop-place.invariant.filled

@@ -1,4 +1,4 @@
-use Rattle.std.proofs.Common.{ℕ, ◌*◌, ◌/◌, ◌%◌, ◌^◌, sym, refl, ap, ◌∙◌, ap₂, arith, lit<}
+use Rattle.std.proofs.Common.{ℕ, ◌/◌, ◌%◌, ◌^◌, sym, refl, ◌∙◌, ap₂, arith, lit<}
 use lib.Bits.{bit_xor}
 use Rattle.elements.specs.Field.{pick}
 use Rattle.elements.specs.Powers.{double_by}

@@ -1,5 +1,4 @@
-use Rattle.std.proofs.Common.{◌≡◌, ◌%◌, ◌-◌, ◌∙◌, arith}
-use Rattle.elements.specs.Field.{pick}
+use Rattle.std.proofs.Common.{◌%◌, arith}
 use Rattle.elements.proofs.Masks.{masked}
 use Rattle.elements.proofs.Made.{byte_of, pick_fits}
 use Rattle.elements.proofs.fields.ByteBinaryField.last_picks.Goals as goal
