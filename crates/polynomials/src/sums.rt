@@ -1,19 +1,24 @@
 ghost use Rattle.std.specs.Prelude.{◌≡◌, ◌-◌, ◌^◌, ◌<◌, ◌≤◌, ◌∷◌, length, take, drop, if◌then◌else◌, Some, None};
+ghost use Rattle.std.specs.List.{fold, zip};
 ghost use Rattle.polynomials.specs.Sums.{dot, power, horner as horner_of, squared, Squares, levels as levels_of, room, filled, brw as brw_of, squared_brw};
 
 use crate::lists::{Elements, element};
 use elements::element::{Arithmetic, Element};
 
+// The products of two lists, pair by pair, added up from the first on.
+fn added_up<E: Arithmetic>(a: &[E], b: &[E]) -> E
+    ensures { result ≡ fold (λ t p. E.Arithmetic.operations.sum t (E.Arithmetic.operations.product p.0 p.1)) E.Arithmetic.operations.zero (zip a.now b.now) }
+{
+    a.iter()
+        .zip(b)
+        .fold(E::zero(), |total, (x, y)| total.add(x.mul(*y)))
+}
+
 // The sum of the products of two lists, pair by pair, as far as the shorter goes.
 pub fn sum_of_products<E: Element>(a: &[E], b: &[E]) -> E
     ensures { result ≡ dot E.Arithmetic.operations a.now b.now }
 {
-    let mut total = E::zero();
-    let n = a.len().min(b.len());
-    for i in 0..n {
-        total = total.add(a[i].mul(b[i]));
-    }
-    total
+    added_up(a, b)
 }
 
 // One step of Horner: the next coefficient.
