@@ -52,7 +52,7 @@ impl<'a> Arithmetic for Counted<'a> {
     fn mul(self, other: Counted<'a>) -> Counted<'a> {
         let tally = self.tally.or(other.tally);
         if let Some(t) = tally {
-            let kind = if self.degree.value == other.degree.value {
+            let kind = if self.degree == other.degree {
                 &t.squarings
             } else {
                 &t.products

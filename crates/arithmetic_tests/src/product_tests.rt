@@ -129,8 +129,9 @@ const PRODUCTS: [(u128, u128, u128); 24] = [
 #[test]
 fn block_products(rt: HostRuntime) {
     for (a, b, product) in PRODUCTS {
-        assert_eq!(rt; Block::new(a).mul(Block::new(b)).value, product);
-        assert_eq!(rt; Block::new(b).mul(Block::new(a)).value, product);
+        let (a, b) = (Block::new(a), Block::new(b));
+        assert_eq!(rt; a.mul(b), Block::new(product));
+        assert_eq!(rt; b.mul(a), Block::new(product));
     }
 }
 
@@ -138,8 +139,8 @@ fn block_products(rt: HostRuntime) {
 fn powers_of_three() -> [u8; 255] {
     let mut table = [1u8; 255];
     let mut x = 1u8;
-    for i in 0..255usize {
-        table[i] = x;
+    for place in &mut table {
+        *place = x;
         let twice = (x << 1) ^ (if x >= 0x80 { 0x1b } else { 0 });
         x ^= twice;
     }
@@ -150,14 +151,13 @@ fn powers_of_three() -> [u8; 255] {
 #[test]
 fn byte_products(rt: HostRuntime) {
     let table = powers_of_three();
-    assert_eq!(rt; Byte::new(0).mul(Byte::new(0)).value, 0);
-    for i in 0..255usize {
-        assert_eq!(rt; Byte::new(table[i]).mul(Byte::new(0)).value, 0);
-        for j in 0..255usize {
-            assert_eq!(rt;
-                Byte::new(table[i]).mul(Byte::new(table[j])).value,
-                table[(i + j) % 255]
-            );
+    let zero = Byte::new(0);
+    assert_eq!(rt; zero.mul(zero), zero);
+    for (i, x) in table.iter().enumerate() {
+        let x = Byte::new(*x);
+        assert_eq!(rt; x.mul(zero), zero);
+        for (j, y) in table.iter().enumerate() {
+            assert_eq!(rt; x.mul(Byte::new(*y)).value, table[(i + j) % 255]);
         }
     }
 }
