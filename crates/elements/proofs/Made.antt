@@ -1,6 +1,5 @@
 -- The values of bytes and blocks that are made of numbers. Assumes nothing.
-use Rattle.std.proofs.Common.{◌≡◌, ℕ, zero, suc, ◌^◌, ◌<◌, ap, ◌∙◌, mod-eq_of_lt, arith}
-use Rattle.elements.specs.Field.{pick}
+use Rattle.std.proofs.Common.{◌≡◌, ℕ, ◌^◌, ◌<◌, ap, ◌∙◌, mod-eq_of_lt}
 use Rattle.elements.specs.Values.{byte, block}
 use Rattle.elements.specs.declared.values.Byte.{Byte}
 use Rattle.elements.specs.declared.values.Block.{Block}
@@ -12,7 +11,3 @@ byte_of e is h = ap (λ (b : Byte). b.value) e ∙ ap (λ (k : ℕ). (byte k).va
 -- the same of a block
 pub block_of : {x : Block} {n m : ℕ} → x ≡ block n → n ≡ m → m < 2 ^ 128 → x.value ≡ m
 block_of e is h = ap (λ (b : Block). b.value) e ∙ ap (λ (k : ℕ). (block k).value) is ∙ mod-eq_of_lt h
-
-pub pick_fits : (d : ℕ) {x m : ℕ} → x < m → pick d x < m
-pick_fits zero h = omega arith
-pick_fits (suc d) h = h

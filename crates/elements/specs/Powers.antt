@@ -31,7 +31,7 @@ pick_bits (suc zero) (suc zero) x hd he = sym (xor_self x)
 pick_bits (suc zero) (suc (suc e)) x hd he = absurd (omega arith)
 pick_bits (suc (suc d)) e x hd he = absurd (omega arith)
 
-pick_lt : (d x m : ℕ) → 0 < m → x < m → pick d x < m
+pub pick_lt : (d x m : ℕ) → 0 < m → x < m → pick d x < m
 pick_lt zero x m hm h = hm
 pick_lt (suc d) x m hm h = h
 

@@ -23,12 +23,7 @@ byte n = record { value = n % 2 ^ 8; fits = mod-lt n (pow_pos 8) }
 
 -- the product is reduced by z^8 + z^4 + z^3 + z + 1
 abbrev pub byte_operations : Operations Byte
-byte_operations = record {
-  zero = byte 0;
-  one = byte 1;
-  sum = λ x y. byte (bit_xor x.value y.value);
-  product = λ x y. byte (times 8 0x1b 8 x.value y.value);
-}
+byte_operations = field_operations 8 0x1b (λ (x : Byte). x.value) byte
 
 -- the block of a number, of which the low 128 bits count
 abbrev pub block : ℕ → Block
@@ -40,12 +35,7 @@ block_double x = block (double 128 0x87 x.value)
 
 -- the product is reduced by z^128 + z^7 + z^2 + z + 1
 abbrev pub block_operations : Operations Block
-block_operations = record {
-  zero = block 0;
-  one = block 1;
-  sum = λ x y. block (bit_xor x.value y.value);
-  product = λ x y. block (times 128 0x87 128 x.value y.value);
-}
+block_operations = field_operations 128 0x87 (λ (x : Block). x.value) block
 
 pub capped_fits : (o : Option ℕ) → number (capped o) < 2 ^ 32
 capped_fits None = lit< tt

@@ -91,7 +91,8 @@ impl Block {
 }
 
 // Reduced by z^128 + z^7 + z^2 + z + 1. The bodies are not shared with `Byte`: over std's operator traits each
-// operator needs a law that says what it gives of the bits, which is longer than they are.
+// operator needs a law that says what it gives of the bits, which is longer than they are. Nor is `new`, which would
+// then ask each caller to have the trait in scope.
 impl BinaryField for Block {
     ghost width = { 128 };
 

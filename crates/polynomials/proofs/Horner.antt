@@ -1,6 +1,6 @@
 -- What the laws give of sums of products, powers and Horner. Assumes nothing.
-use Rattle.std.proofs.Common.{◌≡◌, ℕ, zero, suc, ◌+◌, ◌-◌, ◌^◌, ◌<◌, ◌≤◌, min, ◌⊎◌, List, [], ◌∷◌, ◌++◌, length, get_or, take, drop, sym, refl, ap, ◌∙◌, ap₂, inl, inr, suc-add, pow-suc, zero-add, add-one, arith}
-use Rattle.std.proofs.lemmas.List.{take_more, drop_more, length_push, length-drop, drop_all, get_or-drop}
+use Rattle.std.proofs.Common.{◌≡◌, ℕ, zero, suc, ◌+◌, ◌-◌, ◌^◌, ◌<◌, ◌≤◌, List, [], ◌∷◌, ◌++◌, length, get_or, take, drop, sym, ap, ◌∙◌, ap₂, suc-add, pow-suc, zero-add, add-one, arith}
+use Rattle.std.proofs.lemmas.List.{take_more, length_push, length-drop, get_or-drop}
 use Rattle.std.specs.List.{fold, zip}
 use Rattle.elements.specs.Operations.{Operations, Laws}
 use Rattle.polynomials.specs.Sums.{dot, power, horner, squared}
@@ -63,9 +63,6 @@ module _ {E : Type 0} {o : Operations E} (laws : Laws o) where
       (horner_push τ xs x)
       ∙ sym (laws.sum_assoc ((y ⊗ p) ⊗ τ) (q ⊗ τ) x)
       ∙ ap (λ (e : E). e ⊕ x) (sym (right_distributes (y ⊗ p) q τ))
-
-  pub horner_alone : (τ x : E) → horner o τ (x ∷ []) ≡ x
-  horner_alone τ x = sum_right (x ⊗ o.one) ∙ product_right x
 
   -- one more coefficient, of those from a on
   pub horner_next : (τ f : E) (xs : List E) (a i : ℕ) (v x w : E) → a ≤ i → i < length xs → x ≡ get_or xs i x

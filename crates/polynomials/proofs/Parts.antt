@@ -1,12 +1,9 @@
 -- Parts of a list by their places in it, and the list that a text of bytes is. Assumes nothing.
-use Rattle.std.proofs.Common.{◌≡◌, ℕ, zero, suc, ◌+◌, ◌-◌, ◌<◌, ◌≤◌, Bool, true, ◌⊎◌, inl, inr, List, [], ◌∷◌, length, get_or, take, drop, is_some, Option, Some, None, replicate, nat_lt, sym, refl, ap, ◌∙◌, ap₂, arith}
-use Rattle.std.proofs.lemmas.Bool.{cases_lt, lt-ltb, le-ltb}
-use Rattle.std.proofs.lemmas.Option.{slice_get-get_or, slice_get_past}
-use Rattle.std.proofs.lemmas.List.{length-replicate, get_or-replicate, get_or-take, get_or-drop, take-take, drop-take, drop-drop, length-take-le, length-drop}
+use Rattle.std.proofs.Common.{◌≡◌, ℕ, zero, suc, ◌+◌, ◌-◌, ◌<◌, ◌≤◌, true, List, [], ◌∷◌, length, get_or, take, drop, is_some, Option, Some, None, sym, refl, ap, ◌∙◌, ap₂, arith}
+use Rattle.std.proofs.lemmas.List.{get_or-take, get_or-drop, take-take, drop-take, drop-drop, length-take-le, length-drop}
 use Rattle.std.specs.List.{slice_get}
 use Rattle.std.specs.Simd.{first_chunks}
 use Rattle.std.specs.Option.{option_map, MatchOption, IsSomeAnd}
-use Rattle.std.specs.Bool.{then_some}
 use Rattle.std.specs.Int.Digits.{number_from_digits}
 use Rattle.elements.specs.Values.{block}
 use Rattle.polynomials.specs.Blocks.{blocks}
@@ -26,14 +23,6 @@ mapped f None r e = e
 mapped f (Some x) None e = absurd e
 mapped f (Some x) (Some y) e = ap Some e
 
-pub replicate_get : {E : Type 0} (n i : ℕ) (x : E) → then_some (nat_lt i n) x ≡ slice_get (replicate n x) i
-replicate_get n i x = go (cases_lt i n)
-  where
-    go : (i < n) ⊎ (n ≤ i) → then_some (nat_lt i n) x ≡ slice_get (replicate n x) i
-    go (inl h) = ap (λ (b : Bool). then_some b x) (lt-ltb i n h)
-        ∙ sym (slice_get-get_or (replicate n x) i x (omega (arith, length-replicate n x)) ∙ ap Some (get_or-replicate n i x x h))
-    go (inr h) = ap (λ (b : Bool). then_some b x) (le-ltb i n h) ∙ sym (slice_get_past (replicate n x) i (omega (arith, length-replicate n x)))
-
 module _ {E : Type 0} where
   -- ---- what `nth` finds
 
@@ -46,11 +35,6 @@ module _ {E : Type 0} where
   nth_found [] i x e = refl
   nth_found (y ∷ xs) zero x e = cc
   nth_found (y ∷ xs) (suc i) x e = nth_found xs i x e
-
-  pub nth_reaches : (xs : List E) (i : ℕ) (x : E) → slice_get xs i ≡ Some x → i < length xs
-  nth_reaches [] i x e = let z : ◌≡◌ {A = ℕ} 0 1 = cc in absurd (omega arith)
-  nth_reaches (y ∷ xs) zero x e = omega arith
-  nth_reaches (y ∷ xs) (suc i) x e = let h : i < length xs = nth_reaches xs i x e in omega arith
 
   pub nth_empty : (xs : List E) → slice_get xs 0 ≡ None → xs ≡ []
   nth_empty [] e = refl

@@ -29,6 +29,7 @@ fn horner_step<E: Arithmetic>(key: E, value: E, x: E) -> E
 }
 
 // Horner of `first` and then the elements of `xs` from index `from` on.
+// It counts the index, as a list is read by `get` alone: an iterator would too, and hold a PhantomData for E besides.
 fn horner_part<E: Element, L: Elements<E>>(key: E, first: E, xs: &L, from: usize) -> E
     requires { from ≤ length (L.items xs.now) }
     ensures { result ≡ horner_of E.Arithmetic.operations key (first ∷ drop from (L.items xs.now)) }
@@ -99,6 +100,7 @@ impl<'a, E: Arithmetic> Powers<'a, E> {
 }
 
 // BRW of the elements from index `from` on and before `to`.
+// A type for a part of a list would hold the same three values, and a PhantomData for E besides.
 fn brw_part<E: Arithmetic, L: Elements<E>>(powers: &Powers<E>, xs: &L, from: usize, to: usize) -> E
     requires enough { 3 ≤ to - from → to - from < 2 ^ length powers.now.table.now }
     requires forward { from ≤ to }

@@ -4,12 +4,6 @@ use Rattle.elements.specs.Field.{pick, double, times}
 use Rattle.elements.specs.Powers.{times_next, times_none}
 use Rattle.elements.proofs.bits.times.Goals as goal
 
-pub loop-init : goal.loop-init
-loop-init g c =
-    let m = g.F.BinaryField in
-    let all : m.width - 0 ≡ m.width = omega arith in
-    ap₂ (λ (s k : ℕ). bit_xor s (times m.width m.feedback k (m.bits c.args.x) (m.bits c.args.y))) c.none-sum.ensures all
-
 pub loop-preserved : goal.loop-preserved
 loop-preserved g c =
     let m = g.F.BinaryField in

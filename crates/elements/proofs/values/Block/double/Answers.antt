@@ -4,7 +4,5 @@ use Rattle.elements.specs.Instances.{block_whole}
 use Rattle.elements.specs.Powers.{times_two}
 use Rattle.elements.proofs.values.Block.double.Goals as goal
 
-pub returns : goal.returns
-returns c =
-    let value = sym (block_whole _) ∙ ap block c.double.ensures in
-    record { value = value; product = value ∙ ap block (sym (times_two 128 135 126 c.args.self.value)) }
+pub returns-clause-product : goal.returns-clause-product
+returns-clause-product c = sym (block_whole _) ∙ ap block (c.double.ensures ∙ sym (times_two 128 135 126 c.args.self.value))

@@ -6,9 +6,8 @@ use Rattle.elements.proofs.Endians.{number_big_endian}
 use Rattle.elements.specs.Instances.{block_whole}
 use Rattle.elements.proofs.values.Block.to_bytes.Goals as goal
 
-pub returns : goal.returns
-returns c =
+pub returns-clause-back : goal.returns-clause-back
+returns-clause-back c =
     let x = c.args.self in
     let value : c.to_be_bytes.result ≡ big_endian 16 x.value = search rules in
-    let back = ap (λ bs. block (number_from_digits 256 bs)) value ∙ ap block (number_big_endian 16 x.value ∙ mod-eq_of_lt x.fits) ∙ block_whole x in
-    record { value = value; back = back }
+    ap (λ bs. block (number_from_digits 256 bs)) value ∙ ap block (number_big_endian 16 x.value ∙ mod-eq_of_lt x.fits) ∙ block_whole x
