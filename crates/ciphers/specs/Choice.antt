@@ -1,5 +1,5 @@
 -- A cipher that is chosen at run time. Assumes nothing.
-use Rattle.std.specs.Prelude.{ℕ, List}
+use Rattle.std.specs.Prelude.{ℕ, cond, ◌==◌, List, Option, Some, None}
 use Rattle.elements.specs.declared.values.Block.{Block}
 use Rattle.aes_rules.specs.Aes.{aes_128}
 use Rattle.aes_cipher.specs.Views.{aes_of}
@@ -19,3 +19,7 @@ cipher_of Speck = speck
 abbrev pub keyed_of : AnyCipher → Block → Block
 keyed_of (KeyedAes a) = aes_of a
 keyed_of (KeyedSpeck s) = speck_of s
+
+-- the cipher of a number
+abbrev pub cipher_numbered : ℕ → Option Cipher
+cipher_numbered n = cond (n == 1) (Some Aes) (cond (n == 2) (Some Speck) None)

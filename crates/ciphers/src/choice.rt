@@ -1,6 +1,6 @@
-ghost use Rattle.std.specs.Prelude.{◌≡◌};
+ghost use Rattle.std.specs.Prelude.{◌≡◌, ok_or};
 ghost use Rattle.elements.specs.declared.values.Block.{Block};
-ghost use Rattle.ciphers.specs.Choice.{cipher_of, keyed_of};
+ghost use Rattle.ciphers.specs.Choice.{cipher_of, cipher_numbered, keyed_of};
 
 use crate::aes::Aes128;
 use crate::function::BlockFunction;
@@ -8,17 +8,36 @@ use crate::speck::Speck128;
 use elements::values::Block;
 
 // The ciphers that there are.
-#[derive(Clone, Copy)]
+#[derive(Clone, Copy, Debug, PartialEq, Eq)]
 pub enum Cipher {
     Aes,
     Speck,
 }
+
+// A number that names no cipher.
+#[derive(Clone, Copy, Debug, PartialEq, Eq)]
+pub struct UnknownCipher(pub u8);
 
 // A cipher under one key, where the choice of the cipher is made at run time.
 #[derive(Clone, Copy)]
 pub enum AnyCipher {
     Aes(Aes128),
     Speck(Speck128),
+}
+
+// The numbers are those of sheets and of the functions for C.
+impl TryFrom<u8> for Cipher {
+    type Error = UnknownCipher;
+
+    ghost try_from_gives = { λ n r. r ≡ ok_or (cipher_numbered n) (record { 0 = n }) };
+
+    fn try_from(number: u8) -> Result<Cipher, UnknownCipher> {
+        match number {
+            1 => Ok(Cipher::Aes),
+            2 => Ok(Cipher::Speck),
+            _ => Err(UnknownCipher(number)),
+        }
+    }
 }
 
 impl Cipher {

@@ -1,14 +1,34 @@
-ghost use Rattle.hashing.specs.Choice.{hash_of};
+ghost use Rattle.std.specs.Prelude.{◌≡◌, ok_or};
+ghost use Rattle.hashing.specs.Choice.{hash_of, hash_numbered};
 
 use crate::{BlockHash, BrwHash, HornerHash};
 use elements::values::Block;
 use polynomials::views::Blocks;
 
 // A hash, where the choice is made at run time.
-#[derive(Clone, Copy)]
+#[derive(Clone, Copy, Debug, PartialEq, Eq)]
 pub enum AnyHash {
     Horner,
     Brw,
+}
+
+// A number that names no hash.
+#[derive(Clone, Copy, Debug, PartialEq, Eq)]
+pub struct UnknownHash(pub u8);
+
+// The numbers are those of sheets and of the functions for C.
+impl TryFrom<u8> for AnyHash {
+    type Error = UnknownHash;
+
+    ghost try_from_gives = { λ n r. r ≡ ok_or (hash_numbered n) (record { 0 = n }) };
+
+    fn try_from(number: u8) -> Result<AnyHash, UnknownHash> {
+        match number {
+            1 => Ok(AnyHash::Horner),
+            2 => Ok(AnyHash::Brw),
+            _ => Err(UnknownHash(number)),
+        }
+    }
 }
 
 impl BlockHash for AnyHash {

@@ -24,7 +24,7 @@ pub trait BlockHash {
 }
 
 // Horner of the list with a 1 put before it.
-#[derive(Clone, Copy)]
+#[derive(Clone, Copy, Debug, PartialEq, Eq)]
 pub struct HornerHash;
 
 impl BlockHash for HornerHash {
@@ -36,7 +36,7 @@ impl BlockHash for HornerHash {
 }
 
 // BRW of the list.
-#[derive(Clone, Copy)]
+#[derive(Clone, Copy, Debug, PartialEq, Eq)]
 pub struct BrwHash;
 
 impl BlockHash for BrwHash {
