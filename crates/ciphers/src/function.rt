@@ -6,18 +6,13 @@ use elements::values::Block;
 // A function from blocks to blocks, invertible or not. Its call answers the function's value every time, whatever
 // came before; code that is generic over block functions knows this and the key's length alone.
 pub trait BlockFunction {
-    // How many bytes the key has.
+    // How many bytes the key has, for code and for clauses.
     const KEY_LENGTH: usize;
 
-    // The constant as clauses name it: under a bound, no two reads of the constant are known to be equal.
-    ghost key_length: { ℕ };
+    ghost KEY_LENGTH: { ℕ };
 
     // The function itself.
     ghost function: { Self → Block → Block };
-
-    // The constant, for generic code.
-    fn key_bytes() -> usize
-        ensures { result ≡ key_length };
 
     fn call(&self, x: Block) -> Block
         ensures { result ≡ function self.now x };
