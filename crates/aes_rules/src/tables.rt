@@ -1,6 +1,6 @@
-ghost use Rattle.std.specs.Prelude.{◌≡◌, ◌≤◌, T};
+ghost use Rattle.std.specs.Prelude.{◌≡◌, T};
 ghost use Rattle.aes_rules.specs.Tables.{every, substitutes, raises, constant_of};
-ghost use Rattle.aes_rules.specs.Aes.{affine, inverse, Inverse, round_constant};
+ghost use Rattle.aes_rules.specs.Aes.{affine, inverse, Inverse};
 
 use elements::values::Byte;
 
@@ -45,22 +45,17 @@ pub fn sub_byte(x: Byte) -> Byte
 }
 
 // The entry for round j of a table that keeps the round constants' rule.
-fn raise(table: &[u8; 10], j: usize) -> Byte
-    requires rule { T (every raises 0 table.now) }
-    requires from { 1 ≤ j }
-    requires to { j ≤ 10 }
-    ensures { result ≡ round_constant j }
+fn raise(table: &[u8; 10], j: usize) -> Option<Byte>
+    requires { T (every raises 0 table.now) }
+    ensures { result ≡ constant_of j }
 {
-    Byte::new(table[j - 1])
+    let entry = table.get(j.checked_sub(1)?)?;
+    Some(Byte::new(*entry))
 }
 
 // The constant of round j, of which there are ten.
 pub fn round_constant(j: usize) -> Option<Byte>
     ensures { result ≡ constant_of j }
 {
-    if 1 <= j && j <= 10 {
-        Some(raise(&ROUND_CONSTANTS, j))
-    } else {
-        None
-    }
+    raise(&ROUND_CONSTANTS, j)
 }

@@ -5,4 +5,4 @@ use Rattle.aes_rules.proofs.tables.round_constant.Goals as goal
 -- the test of the round constants
 pub raise-requires : goal.raise-requires
 unfolding double times round_constant
-raise-requires c = record { rule = tt; from = c.if-j-ge1.true; to = c.if-j-le10.true }
+raise-requires c = tt
