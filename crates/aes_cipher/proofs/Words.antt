@@ -1,29 +1,72 @@
 -- Words and columns of four. Assumes nothing.
-use Rattle.std.proofs.Common.{◌≡◌, ℕ, ◌<◌, List, [], ◌∷◌, length, get_or, ap}
+use Rattle.std.proofs.Common.{◌≡◌, ℕ, zero, suc, ◌+◌, ◌/◌, ◌%◌, ◌<◌, ◌≤◌, List, [], ◌∷◌, ◌++◌, take, drop, length, get_or, refl, ap, ◌∙◌, ap₂, zero-le, suc-le-suc, le_of_suc-le-suc, not-suc-le-zero, slice_index, arith}
 use Rattle.std.proofs.lemmas.List.{get_or_default}
 use Rattle.std.specs.Int.Digits.{number_from_digits}
-use Rattle.elements.specs.Values.{byte, block}
+use Rattle.elements.specs.Values.{byte, byte_operations, block}
+use Rattle.polynomials.specs.Sums.{dot}
 use Rattle.elements.specs.declared.values.Block.{Block}
 use Rattle.elements.specs.declared.values.Byte.{Byte}
-use Rattle.aes_rules.specs.Aes.{Word, at, word, values, output}
-use Rattle.aes_cipher.specs.Views.{blank}
+use Rattle.aes_rules.specs.Aes.{Word, four, at, word, rot_word, mix_column, values, output}
+use Rattle.aes_cipher.specs.Views.{blank, words_in}
 use Rattle.aes_cipher.specs.declared.state.Column.{Column}
+use Rattle.aes_cipher.specs.declared.state.TheConstants.{MATRIX}
 
 -- four by four
 pub each : {A : Type 0} {a b c d e f g h : A} → a ≡ e → b ≡ f → c ≡ g → d ≡ h
     → ◌≡◌ {A = List A} (a ∷ (b ∷ (c ∷ (d ∷ [])))) (e ∷ (f ∷ (g ∷ (h ∷ []))))
 each p q r s = λ i. p i ∷ (q i ∷ (r i ∷ (s i ∷ [])))
 
--- within a list the default does not count
-pub read : (w : Word) (r : ℕ) (d : Byte) → r < length w → get_or w r d ≡ at w r
-read w r d h = get_or_default w r d (byte 0) h
+-- f 0 to f (n - 1)
+abbrev pub table : {A : Type 0} → (ℕ → A) → ℕ → List A
+table f zero = []
+table f (suc n) = f 0 ∷ table (λ k. f (suc k)) n
 
-pub read_column : (cs : List Column) (c : ℕ) (d : Column) → c < length cs → (get_or cs c d).bytes ≡ (get_or cs c blank).bytes
-read_column cs c d h = ap (λ (x : Column). x.bytes) (get_or_default cs c d blank h)
+-- a list by the element at each place
+listed : {A : Type 0} (xs : List A) (f : ℕ → A) → ((k : ℕ) (d : A) → k < length xs → get_or xs k d ≡ f k) → xs ≡ table f (length xs)
+listed [] f h = refl
+listed (x ∷ xs) f h = ap₂ (λ y ys. y ∷ ys) (h 0 x (suc-le-suc zero-le)) (listed xs (λ k. f (suc k)) (λ k d l. h (suc k) d (suc-le-suc l)))
+
+pub listed_of : {A : Type 0} (n : ℕ) (xs : List A) (f : ℕ → A) → length xs ≡ n → ((k : ℕ) (d : A) → k < n → get_or xs k d ≡ f k) → xs ≡ table f n
+listed_of n xs f e h = listed xs f (λ k d l. h k d (omega (arith, e, l))) ∙ ap (table f) e
+
+pub four_is : {A : Type 0} (xs : List A) (f : ℕ → A) → length xs ≡ 4 → ((r : ℕ) (d : A) → r < 4 → get_or xs r d ≡ f r) → xs ≡ four f
+four_is xs f e h = listed_of 4 xs f e h
+
+-- the bytes of four columns
+pub columns_are : (cs : List Column) (f : ℕ → Word) → ((c : ℕ) (d : Column) → c < 4 → (get_or cs c d).bytes ≡ f c) → words_in cs ≡ four f
+columns_are cs f h = each (h 0 blank (omega arith)) (h 1 blank (omega arith)) (h 2 blank (omega arith)) (h 3 blank (omega arith))
+
+-- the columns before k are done, and the others are as they were
+abbrev pub Walked : (ℕ → Word → Word) → List Column → List Column → ℕ → Type 0
+Walked step old new k = record {
+  long : length new ≡ 4;
+  done : (c : ℕ) (d : Column) → c < k → (get_or new c d).bytes ≡ step c (get_or old c d).bytes;
+  left : (c : ℕ) (d : Column) → k ≤ c → get_or new c d ≡ get_or old c d
+}
+
+-- all are done
+pub walked : (step : ℕ → Word → Word) (old new : List Column) (k : ℕ) → Walked step old new k → 4 ≤ k → words_in new ≡ four (λ c. step c (word (words_in old) c))
+walked step old new k w h =
+    each (w.done 0 blank (omega arith)) (w.done 1 blank (omega arith)) (w.done 2 blank (omega arith)) (w.done 3 blank (omega arith))
+
+-- a word rotated
+pub rotated : (w x : Word) → length w ≡ 4 → x ≡ drop 1 w ++ take 1 w → x ≡ rot_word w
+unfolding rot_word
+rotated w x n e =
+    e ∙ ap (λ (v : Word). drop 1 v ++ take 1 v) (four_is w (at w) n (λ r d h. get_or_default w r d (byte 0) (omega (arith, n, h))))
 
 -- the sixteen bytes of a state
-pub output_is : (s : List Word) (a b c d : List ℕ) (x : Block)
-    → x ≡ block (number_from_digits 256 (get_or a 0 0 ∷ (get_or a 1 0 ∷ (get_or a 2 0 ∷ (get_or a 3 0 ∷ (get_or b 0 0 ∷ (get_or b 1 0 ∷ (get_or b 2 0 ∷ (get_or b 3 0 ∷ (get_or c 0 0 ∷ (get_or c 1 0 ∷ (get_or c 2 0 ∷ (get_or c 3 0 ∷ (get_or d 0 0 ∷ (get_or d 1 0 ∷ (get_or d 2 0 ∷ (get_or d 3 0 ∷ [])))))))))))))))))
-    → a ≡ values (word s 0) → b ≡ values (word s 1) → c ≡ values (word s 2) → d ≡ values (word s 3) → x ≡ output s
+pub output_is : (s : List Word) (bytes : List ℕ) (x : Block) → length bytes ≡ 16
+    → ((k : ℕ) (d : ℕ) → k < 16 → get_or bytes k d ≡ (at (word s (k / 4)) (k % 4)).value)
+    → x ≡ block (number_from_digits 256 bytes) → x ≡ output s
 unfolding output
-output_is s a b c d x e ea eb ec ed = rw (e, ea, eb, ec, ed)
+output_is s bytes x n h e = e ∙ ap (λ (b : List ℕ). block (number_from_digits 256 b)) (listed_of 16 bytes (λ k. (at (word s (k / 4)) (k % 4)).value) n h)
+
+-- row r of the matrix of MixColumns times a column
+pub mixed_at : (w : Word) (r : ℕ) → r < 4 → dot byte_operations (four (λ k. byte (slice_index (get_or MATRIX r []) k))) w ≡ at (mix_column w) r
+unfolding mix_column
+mixed_at w zero h = refl
+mixed_at w (suc zero) h = refl
+mixed_at w (suc (suc zero)) h = refl
+mixed_at w (suc (suc (suc zero))) h = refl
+mixed_at w (suc (suc (suc (suc r)))) h = absurd (not-suc-le-zero (le_of_suc-le-suc (le_of_suc-le-suc (le_of_suc-le-suc (le_of_suc-le-suc h)))))

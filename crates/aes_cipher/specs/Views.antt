@@ -7,17 +7,21 @@ use Rattle.aes_cipher.specs.declared.state.Column.{Column}
 use Rattle.aes_cipher.specs.declared.state.State.{State}
 use Rattle.aes_cipher.specs.declared.schedule.RoundKey.{RoundKey}
 
--- the columns of a state
-abbrev pub columns_of : State → List Word
-columns_of s = s.c0.bytes ∷ (s.c1.bytes ∷ (s.c2.bytes ∷ (s.c3.bytes ∷ [])))
-
--- what stands past the columns of a row, of which there are always four
+-- what stands past the columns of a state or a row, of which there are always four
 abbrev pub blank : Column
 blank = record { bytes = [] }
 
+-- the words of four columns
+abbrev pub words_in : List Column → List Word
+words_in cs = four (λ c. (slice_index_or cs c blank).bytes)
+
+-- the columns of a state
+abbrev pub columns_of : State → List Word
+columns_of s = words_in s.columns
+
 -- the words of a row
 abbrev pub row_words : RoundKey → List Word
-row_words k = four (λ c. (slice_index_or k.columns c blank).bytes)
+row_words k = words_in k.columns
 
 -- the words of all rows, one row after the other
 abbrev pub words_of : List RoundKey → List Word

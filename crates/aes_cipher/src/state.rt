@@ -1,6 +1,6 @@
-ghost use Rattle.std.specs.Prelude.{◌≡◌, ◌+◌, ◌*◌, ◌<◌, ◌≤◌, [], ◌∷◌, length, replicate};
+ghost use Rattle.std.specs.Prelude.{◌≡◌, ◌+◌, ◌*◌, ◌/◌, ◌%◌, ◌<◌, ◌≤◌, length, replicate, slice_index};
 ghost use Rattle.elements.specs.Values.{byte};
-ghost use Rattle.aes_rules.specs.Aes.{at as byte_at, coefficients, values, word_at, sub_word, rot_word, add_words, rcon, mix_column, sub_bytes, shift_rows, mix_columns, add_round_key, round as after_round, last_round, input, output};
+ghost use Rattle.aes_rules.specs.Aes.{four, at as byte_at, word as word_of, word_at, sub_word, rot_word, add_words, rcon, mix_column, sub_bytes, shift_rows, mix_columns, add_round_key, round as after_round, last_round, input, output};
 ghost use Rattle.aes_cipher.specs.Views.{columns_of, row_words};
 
 use crate::schedule::RoundKey;
@@ -8,6 +8,10 @@ use aes_rules::tables::{round_constant, sub_byte};
 use elements::element::Arithmetic;
 use elements::values::{Block, Byte};
 use polynomials::sums::sum_of_products;
+use std::array;
+
+// The matrix of MixColumns.
+const MATRIX: [[u8; 4]; 4] = [[2, 3, 1, 1], [1, 2, 3, 1], [1, 1, 2, 3], [3, 1, 1, 2]];
 
 // Four bytes: a column of the state, or a word of the key schedule.
 #[derive(Clone, Copy)]
@@ -38,13 +42,8 @@ impl Column {
         requires { 4 * i + 4 ≤ length from.now }
         ensures { result.bytes ≡ word_at from.now i }
     {
-        let k = 4 * i;
-        let b0 = Byte::new(from[k]);
-        let b1 = Byte::new(from[k + 1]);
-        let b2 = Byte::new(from[k + 2]);
-        let b3 = Byte::new(from[k + 3]);
         Column {
-            bytes: [b0, b1, b2, b3],
+            bytes: array::from_fn(|r| Byte::new(from[4 * i + r])),
         }
     }
 
@@ -68,70 +67,52 @@ impl Column {
     pub(crate) fn sub(&mut self)
         ensures { self.new.bytes ≡ sub_word self.old.bytes }
     {
-        let [b0, b1, b2, b3] = self.bytes;
-        self.bytes = [sub_byte(b0), sub_byte(b1), sub_byte(b2), sub_byte(b3)];
+        self.bytes = self.bytes.map(sub_byte);
     }
 
     // RotWord.
     pub(crate) fn rotate(&mut self)
         ensures { self.new.bytes ≡ rot_word self.old.bytes }
     {
-        let [b0, b1, b2, b3] = self.bytes;
-        self.bytes = [b1, b2, b3, b0];
+        self.bytes.rotate_left(1);
     }
 
     // The sum, byte by byte.
     pub(crate) fn add(&mut self, other: &Column)
         ensures { self.new.bytes ≡ add_words self.old.bytes other.now.bytes }
     {
-        let [a0, a1, a2, a3] = self.bytes;
-        let [b0, b1, b2, b3] = other.bytes;
-        self.bytes = [a0.add(b0), a1.add(b1), a2.add(b2), a3.add(b3)];
+        let old = *self;
+        self.bytes = array::from_fn(|r| old.byte(r).add(other.byte(r)));
     }
 
     // A row of the matrix of MixColumns.
-    fn coefficients(a: u8, b: u8, c: u8, d: u8) -> [Byte; 4]
-        ensures { result ≡ coefficients a b c d }
+    fn coefficients(row: [u8; 4]) -> [Byte; 4]
+        ensures { result ≡ four (λ c. byte (slice_index row c)) }
     {
-        [Byte::new(a), Byte::new(b), Byte::new(c), Byte::new(d)]
+        row.map(Byte::new)
+    }
+
+    // Byte r of MixColumns of one column: row r of the matrix times the column.
+    fn mixed(&self, r: usize) -> Byte
+        requires { r < 4 }
+        ensures { result ≡ byte_at (mix_column self.now.bytes) r }
+    {
+        sum_of_products(&Column::coefficients(MATRIX[r]), &self.bytes)
     }
 
     // MixColumns of one column.
     pub(crate) fn mix(&mut self)
         ensures { self.new.bytes ≡ mix_column self.old.bytes }
     {
-        let b0 = sum_of_products(&Column::coefficients(2, 3, 1, 1), &self.bytes);
-        let b1 = sum_of_products(&Column::coefficients(1, 2, 3, 1), &self.bytes);
-        let b2 = sum_of_products(&Column::coefficients(1, 1, 2, 3), &self.bytes);
-        let b3 = sum_of_products(&Column::coefficients(3, 1, 1, 2), &self.bytes);
-        self.bytes = [b0, b1, b2, b3];
-    }
-
-    // The bytes as numbers.
-    fn values(&self) -> [u8; 4]
-        ensures { result ≡ values self.now.bytes }
-    {
-        let [b0, b1, b2, b3] = self.bytes;
-        [b0.value, b1.value, b2.value, b3.value]
-    }
-}
-
-// A column of ShiftRows: row r comes from the column r places on.
-fn slanted(c0: &Column, c1: &Column, c2: &Column, c3: &Column) -> Column
-    ensures { result.bytes ≡ byte_at c0.now.bytes 0 ∷ (byte_at c1.now.bytes 1 ∷ (byte_at c2.now.bytes 2 ∷ (byte_at c3.now.bytes 3 ∷ []))) }
-{
-    Column {
-        bytes: [c0.byte(0), c1.byte(1), c2.byte(2), c3.byte(3)],
+        let old = *self;
+        self.bytes = array::from_fn(|r| old.mixed(r));
     }
 }
 
 // The state of AES.
 #[derive(Clone, Copy)]
 pub struct State {
-    c0: Column,
-    c1: Column,
-    c2: Column,
-    c3: Column,
+    columns: [Column; 4],
 }
 
 impl State {
@@ -141,63 +122,76 @@ impl State {
     {
         let bytes = x.to_bytes();
         State {
-            c0: Column::at(&bytes, 0),
-            c1: Column::at(&bytes, 1),
-            c2: Column::at(&bytes, 2),
-            c3: Column::at(&bytes, 3),
+            columns: array::from_fn(|c| Column::at(&bytes, c)),
         }
+    }
+
+    // Column c.
+    fn column(&self, c: usize) -> Column
+        requires { c < 4 }
+        ensures { result.bytes ≡ word_of (columns_of self.now) c }
+    {
+        self.columns[c]
+    }
+
+    // Byte k of the block of the state.
+    fn value(&self, k: usize) -> u8
+        requires { k < 16 }
+        ensures { result ≡ (byte_at (word_of (columns_of self.now) (k / 4)) (k % 4)).value }
+    {
+        self.column(k / 4).byte(k % 4).value
     }
 
     // The block of the state.
     pub(crate) fn block(&self) -> Block
         ensures { result ≡ output (columns_of self.now) }
     {
-        let [a, b, c, d] = self.c0.values();
-        let [e, f, g, h] = self.c1.values();
-        let [i, j, k, l] = self.c2.values();
-        let [m, n, o, p] = self.c3.values();
-        Block::from_bytes([a, b, c, d, e, f, g, h, i, j, k, l, m, n, o, p])
+        Block::from_bytes(array::from_fn(|k| self.value(k)))
     }
 
     // SubBytes.
     fn sub(&mut self)
         ensures { columns_of self.new ≡ sub_bytes (columns_of self.old) }
     {
-        self.c0.sub();
-        self.c1.sub();
-        self.c2.sub();
-        self.c3.sub();
+        for column in &mut self.columns {
+            column.sub();
+        }
+    }
+
+    // Column c of ShiftRows: row r comes from the column r places on.
+    fn shifted(&self, c: usize) -> Column
+        requires { c < 4 }
+        ensures { result.bytes ≡ four (λ r. byte_at (word_of (columns_of self.now) ((c + r) % 4)) r) }
+    {
+        Column {
+            bytes: array::from_fn(|r| self.column((c + r) % 4).byte(r)),
+        }
     }
 
     // ShiftRows.
     fn shift(&mut self)
         ensures { columns_of self.new ≡ shift_rows (columns_of self.old) }
     {
-        let c0 = slanted(&self.c0, &self.c1, &self.c2, &self.c3);
-        let c1 = slanted(&self.c1, &self.c2, &self.c3, &self.c0);
-        let c2 = slanted(&self.c2, &self.c3, &self.c0, &self.c1);
-        let c3 = slanted(&self.c3, &self.c0, &self.c1, &self.c2);
-        *self = State { c0, c1, c2, c3 };
+        let old = *self;
+        self.columns = array::from_fn(|c| old.shifted(c));
     }
 
     // MixColumns.
     fn mix(&mut self)
         ensures { columns_of self.new ≡ mix_columns (columns_of self.old) }
     {
-        self.c0.mix();
-        self.c1.mix();
-        self.c2.mix();
-        self.c3.mix();
+        for column in self.columns.iter_mut() {
+            column.mix();
+        }
     }
 
     // AddRoundKey.
     pub(crate) fn add(&mut self, key: &RoundKey)
         ensures { columns_of self.new ≡ add_round_key (columns_of self.old) (row_words key.now) }
     {
-        self.c0.add(&key.columns[0]);
-        self.c1.add(&key.columns[1]);
-        self.c2.add(&key.columns[2]);
-        self.c3.add(&key.columns[3]);
+        for (c, column) in self.columns.iter_mut().enumerate() {
+            column.add(&key.columns[c]);
+        }
     }
 
     // A round but the last.

@@ -1,13 +1,12 @@
-use Rattle.std.proofs.Common.{ap, ◌∙◌, arith}
-use Rattle.aes_rules.specs.Aes.{sub_word, sub_byte}
-use Rattle.aes_cipher.proofs.Words.{each, read}
+use Rattle.std.proofs.Common.{rules}
+use Rattle.elements.specs.Values.{byte}
+use Rattle.aes_rules.specs.Aes.{at, sub_byte, sub_word}
+use Rattle.aes_cipher.proofs.Words.{four_is}
 use Rattle.aes_cipher.proofs.state.Column.sub.Goals as goal
 
 pub returns : goal.returns
 unfolding sub_word sub_byte
 returns c =
     let w = c.args.self.now.bytes in
-    each (c.sub_byte.ensures.value ∙ ap sub_byte (read w 0 c.index-self-0.result (omega arith)))
-    (c.sub_byte-2.ensures.value ∙ ap sub_byte (read w 1 c.index-self-1.result (omega arith)))
-    (c.sub_byte-3.ensures.value ∙ ap sub_byte (read w 2 c.index-self-2.result (omega arith)))
-    (c.sub_byte-4.ensures.value ∙ ap sub_byte (read w 3 c.index-self-3.result (omega arith)))
+    let made = c.map-self.ensures.items in
+    four_is c.map-self.result (λ r. sub_byte (at w r)) made.long (λ r d h. let called = made.at r (byte 0) d h in search rules)
