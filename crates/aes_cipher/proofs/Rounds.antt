@@ -1,5 +1,6 @@
 -- The rounds of AES over its rows. Assumes nothing.
-use Rattle.std.proofs.Common.{◌≡◌, ℕ, suc, ◌+◌, ◌-◌, ◌<◌, ◌≤◌, List, length, get_or, sym, refl, ap, ◌∙◌, ap₂, arith}
+use Rattle.std.proofs.Common.{◌≡◌, ℕ, ◌+◌, ◌-◌, ◌<◌, List, length, get_or, take, drop, sym, refl, ap, ◌∙◌, ap₂, add-one, arith}
+use Rattle.std.proofs.lemmas.List.{get_or-take, get_or-drop}
 use Rattle.elements.specs.declared.values.Block.{Block}
 use Rattle.aes_rules.specs.Aes.{Word, add_round_key, round_key, round, last_round, rounds, cipher, input, output, aes_with}
 use Rattle.aes_cipher.specs.Views.{row_words, words_of}
@@ -15,23 +16,22 @@ module _ (rows : List RoundKey) where
   unfolding rounds
   no_round s = refl
 
-  -- one round more
-  pub round_more : (j : ℕ) (k : RoundKey) (start before after : List Word) → 1 ≤ j → j < length rows → k ≡ get_or rows j k
-      → before ≡ rounds (words_of rows) (j - 1) start → after ≡ round (row_words k) before → after ≡ rounds (words_of rows) (j + 1 - 1) start
+  -- one round more, under a row between the first and the last
+  pub round_more : (n j : ℕ) (k : RoundKey) (start before after : List Word) → j < n → j + 1 < length rows → k ≡ get_or (take n (drop 1 rows)) j k
+      → before ≡ rounds (words_of rows) j start → after ≡ round (row_words k) before → after ≡ rounds (words_of rows) (j + 1) start
   unfolding rounds
-  round_more j k start before after l h e p q =
-      let f : j + 1 - 1 ≡ suc (j - 1) = omega arith in
-      let g : suc (j - 1) ≡ j = omega arith in
-      q ∙ ap₂ round (key_is j k h e ∙ ap (round_key (words_of rows)) (sym g)) p ∙ rw f
+  round_more n j k start before after l h e p q =
+      let f : 1 + j ≡ j + 1 = omega arith in
+      let row : k ≡ get_or rows (j + 1) k = e ∙ get_or-take n (drop 1 rows) j k l ∙ get_or-drop 1 rows j k ∙ ap (λ (i : ℕ). get_or rows i k) f in
+      q ∙ ap₂ round (key_is (j + 1) k h row) p ∙ rw (add-one j)
 
   -- all of them
-  pub all_rounds : (n j : ℕ) (k₀ k : RoundKey) (x : Block) (s₀ s₁ s₂ s₃ : List Word) → n < length rows → j ≡ n
+  pub all_rounds : (n j : ℕ) (k₀ k : RoundKey) (x : Block) (s₀ s₁ s₂ s₃ : List Word) → n < length rows → j ≡ n - 1
       → k₀ ≡ get_or rows 0 k₀ → k ≡ get_or rows n k
-      → s₀ ≡ input x → s₁ ≡ add_round_key s₀ (row_words k₀) → s₂ ≡ rounds (words_of rows) (j - 1) s₁ → s₃ ≡ last_round (row_words k) s₂
+      → s₀ ≡ input x → s₁ ≡ add_round_key s₀ (row_words k₀) → s₂ ≡ rounds (words_of rows) j s₁ → s₃ ≡ last_round (row_words k) s₂
       → output s₃ ≡ aes_with n (words_of rows) x
   unfolding aes_with cipher
   all_rounds n j k₀ k x s₀ s₁ s₂ s₃ h f e₀ e p₀ p₁ p₂ p₃ =
       let first : s₁ ≡ add_round_key (input x) (round_key (words_of rows) 0) = p₁ ∙ ap₂ add_round_key p₀ (key_is 0 k₀ (omega arith) e₀) in
-      let middle : s₂ ≡ rounds (words_of rows) (n - 1) (add_round_key (input x) (round_key (words_of rows) 0)) =
-      p₂ ∙ ap₂ (λ (i : ℕ) (s : List Word). rounds (words_of rows) (i - 1) s) f first in
+      let middle : s₂ ≡ rounds (words_of rows) (n - 1) (add_round_key (input x) (round_key (words_of rows) 0)) = p₂ ∙ ap₂ (rounds (words_of rows)) f first in
       ap output (p₃ ∙ ap₂ last_round (key_is n k h e) middle)

@@ -3,8 +3,8 @@ ghost use Rattle.elements.specs.declared.values.Block.{Block};
 ghost use Rattle.aes_rules.specs.Aes.{aes_with, aes_128};
 ghost use Rattle.aes_cipher.specs.Views.{words_of, aes_of};
 
-use crate::schedule::{RoundKey, expand};
-use crate::state::{Column, State};
+use crate::schedule::{CipherKey, RoundKey};
+use crate::state::State;
 use elements::values::Block;
 
 // AES under a schedule, in one round for each row after the first.
@@ -12,13 +12,15 @@ fn encipher_with(rows: &[RoundKey], x: Block) -> Block
     requires { 2 ≤ length rows.now }
     ensures { result ≡ aes_with (length rows.now - 1) (words_of rows.now) x }
 {
-    let last = rows.len() - 1;
+    let [first, middle @ .., last] = rows else {
+        unreachable!()
+    };
     let mut state = State::of(x);
-    state.add(&rows[0]);
-    for j in 1..last {
-        state.round(&rows[j]);
+    state.add(first);
+    for row in middle {
+        state.round(row);
     }
-    state.last_round(&rows[last]);
+    state.last_round(last);
     state.block()
 }
 
@@ -33,11 +35,9 @@ impl Aes128 {
     pub fn new(key: [u8; 16]) -> Aes128
         ensures { (x : Block) → aes_of result x ≡ aes_128 key x }
     {
-        let mut rows = [RoundKey {
-            columns: [Column::zero(); 4],
-        }; 11];
-        expand(key.len() / 4, &key, &mut rows);
-        Aes128 { rows }
+        Aes128 {
+            rows: CipherKey::of(&key).expand(),
+        }
     }
 
     // AES-128 of one block.

@@ -44,50 +44,71 @@ fn put(rows: &mut [RoundKey], i: usize, column: Column)
     rows[i / 4].put(i % 4, column);
 }
 
-// The word before, as it goes into word i of a key of nk words. Keys of more than six words would have a case more.
-fn temp(nk: usize, i: usize, before: Column) -> Column
-    requires some { 0 < nk }
-    requires six { nk ≤ 6 }
-    requires after { nk ≤ i }
-    requires ten { i / nk ≤ 10 }
-    ensures { result.bytes ≡ temp_of nk i before.bytes }
-{
-    let mut temp = before;
-    if i % nk == 0 {
-        temp.rotate();
-        temp.sub();
-        temp.add(&Column::of_round(i / nk));
-    }
-    temp
+// A key of one to six words. Keys of more would have a case more in `temp`.
+#[derive(Clone, Copy)]
+pub struct CipherKey<'a> {
+    bytes: &'a [u8],
+    words: usize,
+    ghost some: { 0 < words },
+    ghost six: { words ≤ 6 },
+    ghost whole: { 4 * words ≤ length bytes.now },
 }
 
-// Word i of the schedule of a key of nk words, from the words before it.
-fn next(nk: usize, key: &[u8], rows: &[RoundKey], i: usize) -> Column
-    requires some { 0 < nk }
-    requires six { nk ≤ 6 }
-    requires ten { i / nk ≤ 10 }
-    requires whole { 4 * nk ≤ length key.now }
-    requires within { i < 4 * length rows.now }
-    ensures { result.bytes ≡ next_word nk key.now i (words_of rows.now) }
-{
-    if i < nk {
-        return Column::at(key, i);
+impl<'a> CipherKey<'a> {
+    // The key of these bytes.
+    pub(crate) fn of(bytes: &'a [u8]) -> CipherKey<'a>
+        requires some { 4 ≤ length bytes.now }
+        requires six { length bytes.now < 28 }
+        ensures bytes { result.bytes ≡ bytes.entry }
+        ensures words { result.words ≡ length bytes.now / 4 }
+    {
+        CipherKey {
+            bytes,
+            words: bytes.len() / 4,
+        }
     }
-    let mut next = word(rows, i - nk);
-    next.add(&temp(nk, i, word(rows, i - 1)));
-    next
-}
 
-// Fills the rows with the schedule of a key of nk words.
-pub(crate) fn expand(nk: usize, key: &[u8], rows: &mut [RoundKey])
-    requires some { 0 < nk }
-    requires six { nk ≤ 6 }
-    requires whole { 4 * nk ≤ length key.now }
-    requires ten { 4 * length rows.old ≤ 11 * nk }
-    ensures { words_of rows.new ≡ key_expansion nk key.now (4 * length rows.old) }
-{
-    for i in 0..4 * rows.len() {
-        let column = next(nk, key, rows, i);
-        put(rows, i, column);
+    // The word before, as it goes into word i of the schedule.
+    fn temp(&self, i: usize, before: Column) -> Column
+        requires after { self.now.words ≤ i }
+        requires ten { i < 11 * self.now.words }
+        ensures { result.bytes ≡ temp_of self.now.words i before.bytes }
+    {
+        let mut temp = before;
+        if i % self.words == 0 {
+            temp.rotate();
+            temp.sub();
+            temp.add(&Column::of_round(i / self.words));
+        }
+        temp
+    }
+
+    // Word i of the schedule, from the words before it.
+    fn next(&self, rows: &[RoundKey], i: usize) -> Column
+        requires ten { i < 11 * self.now.words }
+        requires within { i < 4 * length rows.now }
+        ensures { result.bytes ≡ next_word self.now.words self.now.bytes.now i (words_of rows.now) }
+    {
+        if i < self.words {
+            return Column::at(self.bytes, i);
+        }
+        let mut next = word(rows, i - self.words);
+        next.add(&self.temp(i, word(rows, i - 1)));
+        next
+    }
+
+    // The schedule of the key, in N rows.
+    pub(crate) fn expand<const N: usize>(&self) -> [RoundKey; N]
+        requires ten { 4 * N ≤ 11 * self.now.words }
+        ensures { words_of result ≡ key_expansion self.now.words self.now.bytes.now (4 * N) }
+    {
+        let mut rows = [RoundKey {
+            columns: [Column::zero(); 4],
+        }; N];
+        for i in 0..4 * N {
+            let column = self.next(&rows, i);
+            put(&mut rows, i, column);
+        }
+        rows
     }
 }
