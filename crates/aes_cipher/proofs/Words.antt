@@ -1,12 +1,11 @@
 -- Words and columns of four. Assumes nothing.
-use Rattle.std.proofs.Common.{◌≡◌, ℕ, zero, suc, ◌+◌, ◌/◌, ◌%◌, ◌<◌, ◌≤◌, List, [], ◌∷◌, ◌++◌, take, drop, length, get_or, refl, ap, ◌∙◌, ap₂, zero-le, suc-le-suc, le_of_suc-le-suc, not-suc-le-zero, slice_index, arith}
+use Rattle.std.proofs.Common.{◌≡◌, ℕ, zero, suc, ◌/◌, ◌%◌, ◌<◌, ◌≤◌, List, [], ◌∷◌, ◌++◌, take, drop, length, get_or, refl, ap, ◌∙◌, ap₂, zero-le, suc-le-suc, le_of_suc-le-suc, not-suc-le-zero, slice_index, arith}
 use Rattle.std.proofs.lemmas.List.{get_or_default}
 use Rattle.std.specs.Int.Digits.{number_from_digits}
 use Rattle.elements.specs.Values.{byte, byte_operations, block}
 use Rattle.polynomials.specs.Sums.{dot}
 use Rattle.elements.specs.declared.values.Block.{Block}
-use Rattle.elements.specs.declared.values.Byte.{Byte}
-use Rattle.aes_rules.specs.Aes.{Word, four, at, word, rot_word, mix_column, values, output}
+use Rattle.aes_rules.specs.Aes.{Word, four, at, word, rot_word, mix_column, output}
 use Rattle.aes_cipher.specs.Views.{blank, words_in}
 use Rattle.aes_cipher.specs.declared.state.Column.{Column}
 use Rattle.aes_cipher.specs.declared.state.TheConstants.{MATRIX}

@@ -53,13 +53,9 @@ impl Column {
         requires to { j ≤ 10 }
         ensures { result.bytes ≡ rcon j }
     {
+        let zero = Byte::new(0);
         Column {
-            bytes: [
-                round_constant(j).unwrap(),
-                Byte::new(0),
-                Byte::new(0),
-                Byte::new(0),
-            ],
+            bytes: [round_constant(j).unwrap(), zero, zero, zero],
         }
     }
 
@@ -153,7 +149,7 @@ impl State {
     fn sub(&mut self)
         ensures { columns_of self.new ≡ sub_bytes (columns_of self.old) }
     {
-        for column in &mut self.columns {
+        for column in self.columns.iter_mut() {
             column.sub();
         }
     }
@@ -189,6 +185,7 @@ impl State {
     pub(crate) fn add(&mut self, key: &RoundKey)
         ensures { columns_of self.new ≡ add_round_key (columns_of self.old) (row_words key.now) }
     {
+        // By the index: of what is written through `zip` over `iter_mut` nothing is known afterwards.
         for (c, column) in self.columns.iter_mut().enumerate() {
             column.add(&key.columns[c]);
         }

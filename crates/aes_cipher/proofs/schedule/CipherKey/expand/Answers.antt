@@ -1,4 +1,4 @@
-use Rattle.std.proofs.Common.{◌≡◌, ◌*◌, ◌/◌, ◌<◌, length, refl, rules, arith}
+use Rattle.std.proofs.Common.{◌≡◌, ◌*◌, ◌<◌, length, refl, rules, arith}
 use Rattle.std.proofs.lemmas.List.{length-replicate}
 use Rattle.aes_rules.specs.Aes.{key_expansion}
 use Rattle.aes_cipher.specs.Views.{words_of}

@@ -11,4 +11,4 @@ pub returns : goal.returns
 unfolding rcon
 returns c =
     each (constant_is c.args.j c.unwrap.result c.requires.from c.requires.to (sym c.round_constant.ensures ∙ c.unwrap.ensures))
-    c.new.ensures c.new-2.ensures c.new-3.ensures
+    c.new-zero.ensures c.new-zero.ensures c.new-zero.ensures

@@ -1,6 +1,4 @@
-use Rattle.std.proofs.Common.{length, rules, arith}
-use Rattle.elements.specs.Values.{byte}
-use Rattle.aes_rules.specs.Aes.{rot_word}
+use Rattle.std.proofs.Common.{arith}
 use Rattle.aes_cipher.proofs.Words.{rotated}
 use Rattle.aes_cipher.proofs.state.Column.rotate.Goals as goal
 
