@@ -13,24 +13,28 @@ struct Words {
     v: u64,
 }
 
-impl Words {
-    // The halves of a block.
-    fn of(x: Block) -> Words
-        ensures { pair result ≡ halves x }
-    {
+// The halves of a block.
+impl From<Block> for Words {
+    ghost from_gives = { λ x w. pair w ≡ halves x };
+
+    fn from(x: Block) -> Words {
         Words {
             u: (x.value >> 64) as u64,
             v: (x.value % (1 << 64)) as u64,
         }
     }
+}
 
-    // The block of the two.
-    fn block(self) -> Block
-        ensures { result ≡ joined (pair self) }
-    {
-        Block::new(u128::from(self.u) * (1 << 64) + u128::from(self.v))
+// The block of the two.
+impl From<Words> for Block {
+    ghost from_gives = { λ w x. x ≡ joined (pair w) };
+
+    fn from(w: Words) -> Block {
+        Block::new(u128::from(w.u) * (1 << 64) + u128::from(w.v))
     }
+}
 
+impl Words {
     // One round under a round key.
     fn round(&mut self, key: u64)
         ensures { pair self.new ≡ after_round key (pair self.old) }
@@ -52,7 +56,7 @@ impl Speck128 {
         ensures { (x : Block) → speck_of result x ≡ speck key x }
     {
         Speck128 {
-            key: Words::of(Block::from_bytes(key)),
+            key: Words::from(Block::from_bytes(key)),
         }
     }
 }
@@ -65,13 +69,13 @@ impl BlockFunction for Speck128 {
     ghost function = { speck_of };
 
     fn call(&self, x: Block) -> Block {
-        let mut text = Words::of(x);
+        let mut text = Words::from(x);
         let mut key = self.key;
         for i in 0..32u64 {
             // k is the round key, and the key goes on by the same round, under the round's number.
             text.round(key.v);
             key.round(i);
         }
-        text.block()
+        Block::from(text)
     }
 }

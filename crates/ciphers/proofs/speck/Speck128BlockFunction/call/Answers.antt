@@ -14,7 +14,7 @@ pub returns : goal.returns
 returns c =
     let key = pair c.args.self.now.key in
     let text = pair c.loop-i.text in
-    c.block.ensures
+    c.from.ensures
     ∙ whole key text c.args.x
     (sym (all c.loop-i.i (pair c.loop-i.key) text c.loop-i-test.false)
-    ∙ c.loop-i.invariant ∙ ap (λ (w : Pair). rounds (round_keys 32 0 key) w) c.of-text.ensures)
+    ∙ c.loop-i.invariant ∙ ap (λ (w : Pair). rounds (round_keys 32 0 key) w) c.from-text.ensures)

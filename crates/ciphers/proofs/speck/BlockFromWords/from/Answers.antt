@@ -1,7 +1,7 @@
 use Rattle.std.proofs.Common.{ℕ, ◌+◌, ◌*◌, ◌^◌, ◌∙◌, ap₂}
 use Rattle.elements.specs.Values.{block}
 use Rattle.ciphers.specs.Speck.{joined}
-use Rattle.ciphers.proofs.speck.Words.block.Goals as goal
+use Rattle.ciphers.proofs.speck.BlockFromWords.from.Goals as goal
 
 pub returns : goal.returns
 unfolding joined

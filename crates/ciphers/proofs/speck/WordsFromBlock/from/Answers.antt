@@ -1,6 +1,6 @@
 use Rattle.std.proofs.Common.{refl}
 use Rattle.ciphers.specs.Speck.{halves}
-use Rattle.ciphers.proofs.speck.Words.of.Goals as goal
+use Rattle.ciphers.proofs.speck.WordsFromBlock.from.Goals as goal
 
 pub returns : goal.returns
 unfolding halves
