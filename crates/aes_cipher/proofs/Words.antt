@@ -1,12 +1,13 @@
 -- Words and columns of four. Assumes nothing.
-use Rattle.std.proofs.Common.{◌≡◌, ℕ, zero, suc, ◌/◌, ◌%◌, ◌<◌, ◌≤◌, List, [], ◌∷◌, ◌++◌, take, drop, length, get_or, refl, ap, ◌∙◌, ap₂, zero-le, suc-le-suc, le_of_suc-le-suc, not-suc-le-zero, slice_index, arith}
+use Rattle.std.proofs.Common.{◌≡◌, ℕ, zero, suc, ◌/◌, ◌%◌, ◌<◌, ◌≤◌, List, [], ◌∷◌, ◌++◌, take, drop, set, length, get_or, sym, refl, ap, ◌∙◌, ap₂, zero-le, suc-le-suc, le_of_suc-le-suc, not-suc-le-zero, slice_index, arith}
 use Rattle.std.proofs.lemmas.List.{get_or_default}
 use Rattle.std.specs.Int.Digits.{number_from_digits}
 use Rattle.elements.specs.Values.{byte, byte_operations, block}
 use Rattle.polynomials.specs.Sums.{dot}
+use Rattle.elements.specs.Instances.{byte_whole}
 use Rattle.elements.specs.declared.values.Block.{Block}
-use Rattle.aes_rules.specs.Aes.{Word, four, at, word, rot_word, mix_column, output}
-use Rattle.aes_cipher.specs.Views.{blank, words_in}
+use Rattle.aes_rules.specs.Aes.{Word, four, at, word, rot_word, mix_column, values, output}
+use Rattle.aes_cipher.specs.Views.{blank, word_of_bytes, words_in}
 use Rattle.aes_cipher.specs.declared.state.Column.{Column}
 use Rattle.aes_cipher.specs.declared.state.TheConstants.{MATRIX}
 
@@ -30,6 +31,28 @@ listed_of n xs f e h = listed xs f (λ k d l. h k d (omega (arith, e, l))) ∙ a
 
 pub four_is : {A : Type 0} (xs : List A) (f : ℕ → A) → length xs ≡ 4 → ((r : ℕ) (d : A) → r < 4 → get_or xs r d ≡ f r) → xs ≡ four f
 four_is xs f e h = listed_of 4 xs f e h
+
+-- a word from its own bytes
+from_values : (w : Word) → length w ≡ 4 → word_of_bytes (values w) ≡ w
+from_values w n =
+    each (byte_whole (at w 0)) (byte_whole (at w 1)) (byte_whole (at w 2)) (byte_whole (at w 3))
+    ∙ sym (four_is w (at w) n (λ r d h. get_or_default w r d (byte 0) (omega (arith, n, h))))
+
+put_at : (f : ℕ → List ℕ) (c : ℕ) (b : List ℕ) (w : Word) → c < 4 → word_of_bytes b ≡ w
+    → four (λ i. word_of_bytes (get_or (set (four f) c b) i [])) ≡ set (four (λ i. word_of_bytes (f i))) c w
+put_at f zero b w h e = each e refl refl refl
+put_at f (suc zero) b w h e = each refl e refl refl
+put_at f (suc (suc zero)) b w h e = each refl refl e refl
+put_at f (suc (suc (suc zero))) b w h e = each refl refl refl e
+put_at f (suc (suc (suc (suc c)))) b w h e = absurd (not-suc-le-zero (le_of_suc-le-suc (le_of_suc-le-suc (le_of_suc-le-suc (le_of_suc-le-suc h)))))
+
+-- word c of a row replaced, by its bytes
+pub row_put : (ws : List (List ℕ)) (c : ℕ) (b : List ℕ) (w : Word) → length ws ≡ 4 → length w ≡ 4 → c < 4 → b ≡ values w
+    → four (λ i. word_of_bytes (get_or (set ws c b) i [])) ≡ set (four (λ i. word_of_bytes (get_or ws i []))) c w
+row_put ws c b w n m h e =
+    let whole = four_is ws (λ i. get_or ws i []) n (λ i d l. get_or_default ws i d [] (omega (arith, n, l))) in
+    ap (λ vs. four (λ i. word_of_bytes (get_or (set vs c b) i []))) whole
+    ∙ put_at (λ i. get_or ws i []) c b w h (ap word_of_bytes e ∙ from_values w m)
 
 -- the bytes of four columns
 pub columns_are : (cs : List Column) (f : ℕ → Word) → ((c : ℕ) (d : Column) → c < 4 → (get_or cs c d).bytes ≡ f c) → words_in cs ≡ four f

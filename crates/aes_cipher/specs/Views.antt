@@ -1,5 +1,6 @@
 -- The code's state and schedule as the definition's. Assumes nothing.
-use Rattle.std.specs.Prelude.{List, [], ◌∷◌, ◌++◌, slice_index_or}
+use Rattle.std.specs.Prelude.{ℕ, List, [], ◌∷◌, ◌++◌, slice_index, slice_index_or}
+use Rattle.elements.specs.Values.{byte}
 use Rattle.elements.specs.declared.values.Block.{Block}
 use Rattle.aes_rules.specs.Aes.{Word, four, aes_with}
 use Rattle.aes_cipher.specs.declared.cipher.Aes128.{Aes128}
@@ -7,7 +8,11 @@ use Rattle.aes_cipher.specs.declared.state.Column.{Column}
 use Rattle.aes_cipher.specs.declared.state.State.{State}
 use Rattle.aes_cipher.specs.declared.schedule.RoundKey.{RoundKey}
 
--- what stands past the columns of a state or a row, of which there are always four
+-- the word of four bytes
+abbrev pub word_of_bytes : List ℕ → Word
+word_of_bytes bs = four (λ r. byte (slice_index bs r))
+
+-- what stands past the columns of a state, of which there are always four
 abbrev pub blank : Column
 blank = record { bytes = [] }
 
@@ -21,7 +26,7 @@ columns_of s = words_in s.columns
 
 -- the words of a row
 abbrev pub row_words : RoundKey → List Word
-row_words k = words_in k.columns
+row_words k = four (λ c. word_of_bytes (slice_index_or k.words c []))
 
 -- the words of all rows, one row after the other
 abbrev pub words_of : List RoundKey → List Word

@@ -4,19 +4,20 @@ ghost use Rattle.aes_cipher.specs.Views.{row_words, words_of};
 
 use crate::state::Column;
 
-// The key of one round: four words of the schedule.
+// The key of one round: four words of the schedule, as plain bytes. With columns here, whose bytes have a ghost field, the
+// checker would not cover a layer over lent memory that holds a keyed cipher.
 #[derive(Clone, Copy)]
 pub struct RoundKey {
-    pub columns: [Column; 4],
+    words: [[u8; 4]; 4],
 }
 
 impl RoundKey {
     // Word c of the row.
-    fn word(&self, c: usize) -> Column
+    pub(crate) fn word(&self, c: usize) -> Column
         requires { c < 4 }
         ensures { result.bytes ≡ word_of (row_words self.now) c }
     {
-        self.columns[c]
+        Column::from(self.words[c])
     }
 
     // Replaces word c of the row.
@@ -24,7 +25,7 @@ impl RoundKey {
         requires { c < 4 }
         ensures { row_words self.new ≡ slice_set (row_words self.old) c column.bytes }
     {
-        self.columns[c] = column;
+        self.words[c] = column.values();
     }
 }
 
@@ -102,9 +103,7 @@ impl<'a> CipherKey<'a> {
         requires ten { 4 * N ≤ 11 * self.now.words }
         ensures { words_of result ≡ key_expansion self.now.words self.now.bytes.now (4 * N) }
     {
-        let mut rows = [RoundKey {
-            columns: [Column::zero(); 4],
-        }; N];
+        let mut rows = [RoundKey { words: [[0; 4]; 4] }; N];
         for i in 0..4 * N {
             let column = self.next(&rows, i);
             put(&mut rows, i, column);

@@ -1,7 +1,6 @@
-ghost use Rattle.std.specs.Prelude.{◌≡◌, ◌+◌, ◌*◌, ◌/◌, ◌%◌, ◌<◌, ◌≤◌, length, replicate, slice_index};
-ghost use Rattle.elements.specs.Values.{byte};
-ghost use Rattle.aes_rules.specs.Aes.{four, at as byte_at, word as word_of, word_at, sub_word, rot_word, add_words, rcon, mix_column, sub_bytes, shift_rows, mix_columns, add_round_key, round as after_round, last_round, input, output};
-ghost use Rattle.aes_cipher.specs.Views.{columns_of, row_words};
+ghost use Rattle.std.specs.Prelude.{◌≡◌, ◌+◌, ◌*◌, ◌/◌, ◌%◌, ◌<◌, ◌≤◌, length};
+ghost use Rattle.aes_rules.specs.Aes.{four, at as byte_at, word as word_of, word_at, sub_word, rot_word, add_words, rcon, mix_column, values, sub_bytes, shift_rows, mix_columns, add_round_key, round as after_round, last_round, input, output};
+ghost use Rattle.aes_cipher.specs.Views.{word_of_bytes, columns_of, row_words};
 
 use crate::schedule::RoundKey;
 use aes_rules::tables::{round_constant, sub_byte};
@@ -19,16 +18,17 @@ pub struct Column {
     pub bytes: [Byte; 4],
 }
 
-impl Column {
-    // Four zeros.
-    pub(crate) fn zero() -> Column
-        ensures { result.bytes ≡ replicate 4 (byte 0) }
-    {
+impl From<[u8; 4]> for Column {
+    ghost from_gives = { λ bs w. w.bytes ≡ word_of_bytes bs };
+
+    fn from(bytes: [u8; 4]) -> Column {
         Column {
-            bytes: [Byte::new(0); 4],
+            bytes: bytes.map(Byte::new),
         }
     }
+}
 
+impl Column {
     // The byte in row r.
     fn byte(&self, r: usize) -> Byte
         requires { r < 4 }
@@ -81,19 +81,12 @@ impl Column {
         self.bytes = array::from_fn(|r| old.byte(r).add(other.byte(r)));
     }
 
-    // A row of the matrix of MixColumns.
-    fn coefficients(row: [u8; 4]) -> [Byte; 4]
-        ensures { result ≡ four (λ c. byte (slice_index row c)) }
-    {
-        row.map(Byte::new)
-    }
-
     // Byte r of MixColumns of one column: row r of the matrix times the column.
     fn mixed(&self, r: usize) -> Byte
         requires { r < 4 }
         ensures { result ≡ byte_at (mix_column self.now.bytes) r }
     {
-        sum_of_products(&Column::coefficients(MATRIX[r]), &self.bytes)
+        sum_of_products(&Column::from(MATRIX[r]).bytes, &self.bytes)
     }
 
     // MixColumns of one column.
@@ -102,6 +95,13 @@ impl Column {
     {
         let old = *self;
         self.bytes = array::from_fn(|r| old.mixed(r));
+    }
+
+    // The bytes as numbers.
+    pub(crate) fn values(&self) -> [u8; 4]
+        ensures { result ≡ values self.now.bytes }
+    {
+        array::from_fn(|r| self.byte(r).value)
     }
 }
 
@@ -187,7 +187,7 @@ impl State {
     {
         // By the index: of what is written through `zip` over `iter_mut` nothing is known afterwards.
         for (c, column) in self.columns.iter_mut().enumerate() {
-            column.add(&key.columns[c]);
+            column.add(&key.word(c));
         }
     }
 

@@ -9,8 +9,8 @@ loop-row-init c = no_round c.args.rows.now (columns_of c.add.new.self)
 pub loop-row-preserved : goal.loop-row-preserved
 loop-row-preserved c =
     let rows = c.args.rows.now in
-    round_more rows (length rows - 1 - 1) c.loop-row.row-index c.row-item.result (columns_of c.add.new.self) (columns_of c.loop-row.state) (columns_of c.round.new.self)
-    (omega arith) (omega arith) c.row-item.is c.loop-row.invariant c.round.ensures
+    round_more rows (length rows - 1 - 1) c.loop-row.row-index _ (columns_of c.add.new.self) (columns_of c.loop-row.state) (columns_of c.round.new.self)
+    (omega arith) (omega arith) c.loop-row.invariant c.round.ensures
 
 pub returns : goal.returns
 returns c =
@@ -18,6 +18,6 @@ returns c =
     let n = length rows - 1 in
     let end : c.loop-row.row-index ≡ n - 1 = omega arith in
     c.block.ensures
-    ∙ all_rounds rows n c.loop-row.row-index c.first-item.result c.last-item.result c.args.x
+    ∙ all_rounds rows n c.loop-row.row-index _ _ c.args.x
     (columns_of c.of-state.result) (columns_of c.add.new.self) (columns_of c.loop-row.state) (columns_of c.last_round.new.self)
-    (omega arith) end c.first-item.is c.last-item.is c.of-state.ensures c.add.ensures c.loop-row.invariant c.last_round.ensures
+    (omega arith) end c.of-state.ensures c.add.ensures c.loop-row.invariant c.last_round.ensures

@@ -8,4 +8,4 @@ use Rattle.aes_cipher.proofs.state.Column.mixed.Goals as goal
 pub returns : goal.returns
 returns c =
     let w = c.args.self.now.bytes in
-    c.sum_of_products.ensures ∙ ap (λ (row : Word). dot byte_operations row w) c.coefficients.ensures ∙ mixed_at w c.args.r c.requires
+    c.sum_of_products.ensures ∙ ap (λ (row : Word). dot byte_operations row w) c.from.ensures ∙ mixed_at w c.args.r c.requires
