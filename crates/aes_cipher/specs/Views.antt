@@ -26,7 +26,7 @@ columns_of s = words_in s.columns
 
 -- the words of a row
 abbrev pub row_words : RoundKey → List Word
-row_words k = four (λ c. word_of_bytes (slice_index_or k.words c []))
+row_words k = four (λ c. word_of_bytes (slice_index_or k.columns c []))
 
 -- the words of all rows, one row after the other
 abbrev pub words_of : List RoundKey → List Word

@@ -8,7 +8,7 @@ use crate::state::Column;
 // checker would not cover a layer over lent memory that holds a keyed cipher.
 #[derive(Clone, Copy)]
 pub struct RoundKey {
-    words: [[u8; 4]; 4],
+    columns: [[u8; 4]; 4],
 }
 
 impl RoundKey {
@@ -17,7 +17,7 @@ impl RoundKey {
         requires { c < 4 }
         ensures { result.bytes ≡ word_of (row_words self.now) c }
     {
-        Column::from(self.words[c])
+        Column::from(self.columns[c])
     }
 
     // Replaces word c of the row.
@@ -25,7 +25,7 @@ impl RoundKey {
         requires { c < 4 }
         ensures { row_words self.new ≡ slice_set (row_words self.old) c column.bytes }
     {
-        self.words[c] = column.values();
+        self.columns[c] = column.values();
     }
 }
 
@@ -103,7 +103,9 @@ impl<'a> CipherKey<'a> {
         requires ten { 4 * N ≤ 11 * self.now.words }
         ensures { words_of result ≡ key_expansion self.now.words self.now.bytes.now (4 * N) }
     {
-        let mut rows = [RoundKey { words: [[0; 4]; 4] }; N];
+        let mut rows = [RoundKey {
+            columns: [[0; 4]; 4],
+        }; N];
         for i in 0..4 * N {
             let column = self.next(&rows, i);
             put(&mut rows, i, column);
