@@ -17,3 +17,20 @@ pub trait BlockFunction {
     fn call(&self, x: Block) -> Block
         ensures { result ≡ function self.now x };
 }
+
+// A reference calls what it points to.
+impl<F: BlockFunction> BlockFunction for &F {
+    const KEY_LENGTH: usize = F::KEY_LENGTH;
+
+    ghost key_length = { F.key_length };
+
+    ghost function = { λ f. F.function f.now };
+
+    fn key_bytes() -> usize {
+        F::key_bytes()
+    }
+
+    fn call(&self, x: Block) -> Block {
+        (**self).call(x)
+    }
+}

@@ -23,6 +23,15 @@ pub trait BlockHash {
         ensures { result ≡ hash self.now key (blocks_of list.entry.bytes.now) };
 }
 
+// A reference calls what it points to.
+impl<H: BlockHash> BlockHash for &H {
+    ghost hash = { λ g. H.hash g.now };
+
+    fn call(&self, key: Block, list: Blocks<'_>) -> Block {
+        (**self).call(key, list)
+    }
+}
+
 // Horner of the list with a 1 put before it.
 #[derive(Clone, Copy, Debug, PartialEq, Eq)]
 pub struct HornerHash;

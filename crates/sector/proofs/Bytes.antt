@@ -13,9 +13,9 @@ use Rattle.sector.specs.declared.text.Direction.{Direction}
 use Rattle.sector.specs.declared.text.Direction.TheVariants.{Encipher, Decipher}
 use Rattle.sector.specs.Inverse.{Inverse}
 use Rattle.sector.specs.Steps.{finished, transformed}
-use Rattle.sector.specs.Texts.{bytes, joined, text_of, bytes_of, enciphered_bytes, deciphered_bytes, transformed_bytes}
+use Rattle.sector.specs.Texts.{bytes, joined, text_of, bytes_of, enciphered_bytes, deciphered_bytes, reversed, transformed_bytes}
 use Rattle.sector.specs.Transform.{Text, enciphered, deciphered}
-use Rattle.sector.proofs.Restores.{opposite, text_restored}
+use Rattle.sector.proofs.Restores.{text_restored}
 
 pub length_bytes : (b : Block) → length (bytes b) ≡ 16
 unfolding bytes
@@ -129,12 +129,13 @@ unfolding enciphered_bytes deciphered_bytes enciphered deciphered transformed fi
 transformed_is Encipher F g T t = refl
 transformed_is Decipher F g T t = refl
 
-restored : (d : Direction) (F : Block → Block) (g : Block → List Block → Block) (T : Block) (t : List ℕ)
-    → 32 ≤ length t → length t % 16 ≡ 0 → AllBelowBase 256 t → transformed_bytes (opposite d) F g T (transformed_bytes d F g T t) ≡ t
+-- a direction and then the other gives the text again
+pub restored : (d : Direction) (F : Block → Block) (g : Block → List Block → Block) (T : Block) (t : List ℕ)
+    → 32 ≤ length t → length t % 16 ≡ 0 → AllBelowBase 256 t → transformed_bytes (reversed d) F g T (transformed_bytes d F g T t) ≡ t
 restored d F g T t h m u =
-    transformed_is (opposite d) F g T (transformed_bytes d F g T t)
-    ∙ ap (λ (l : List ℕ). bytes_of (transformed (opposite d) F g T (text_of l))) (transformed_is d F g T t)
-    ∙ ap (λ (p : Text). bytes_of (transformed (opposite d) F g T p)) (text_bytes (transformed d F g T (text_of t)))
+    transformed_is (reversed d) F g T (transformed_bytes d F g T t)
+    ∙ ap (λ (l : List ℕ). bytes_of (transformed (reversed d) F g T (text_of l))) (transformed_is d F g T t)
+    ∙ ap (λ (p : Text). bytes_of (transformed (reversed d) F g T p)) (text_bytes (transformed d F g T (text_of t)))
     ∙ ap bytes_of (text_restored d F g T (text_of t))
     ∙ bytes_text t h m u
 

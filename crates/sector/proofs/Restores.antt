@@ -8,12 +8,8 @@ use Rattle.sector.specs.declared.text.Direction.{Direction}
 use Rattle.sector.specs.declared.text.Direction.TheVariants.{Encipher, Decipher}
 use Rattle.sector.specs.declared.text.Front.{Front}
 use Rattle.sector.specs.Steps.{masked, unmasked, feistel, feistel_back, blended, unblended, to_middle, from_middle, finished, transformed}
+use Rattle.sector.specs.Texts.{reversed}
 use Rattle.sector.specs.Transform.{◌⊕◌, ◌⊗◌, Text, counter_block, counter_mode, hash_key, tail_hash}
-
--- the other direction
-abbrev pub opposite : Direction → Direction
-opposite Encipher = Decipher
-opposite Decipher = Encipher
 
 cancel : (x y : Block) → ◌⊕◌ (◌⊕◌ x y) y ≡ x
 cancel x y = block_laws.sum_assoc x y y ∙ ap (◌⊕◌ x) (ap block (xor_self y.value)) ∙ (block_laws.sum_comm x (block 0) ∙ block_laws.sum_zero x)
@@ -64,16 +60,16 @@ counter_mode_twice : (F : Block → Block) (z : Block) (i : ℕ) (M : List Block
 counter_mode_twice F z i [] = refl
 counter_mode_twice F z i (b ∷ M) = ap₂ ◌∷◌ (cancel b (F (◌⊕◌ z (counter_block i)))) (counter_mode_twice F z (suc i) M)
 
-in_out : (d : Direction) (F : Block → Block) (τ h : Block) (b : Front) → to_middle (opposite d) F τ h (from_middle d F τ h b) ≡ b
+in_out : (d : Direction) (F : Block → Block) (τ h : Block) (b : Front) → to_middle (reversed d) F τ h (from_middle d F τ h b) ≡ b
 in_out Encipher F τ h b = unblended_blended τ h b
 in_out Decipher F τ h b = ap (feistel F) (masked_unmasked τ h (feistel_back F b)) ∙ feistel_again F b
 
-out_in : (d : Direction) (F : Block → Block) (τ h : Block) (p : Front) → from_middle (opposite d) F τ h (to_middle d F τ h p) ≡ p
+out_in : (d : Direction) (F : Block → Block) (τ h : Block) (p : Front) → from_middle (reversed d) F τ h (to_middle d F τ h p) ≡ p
 out_in Encipher F τ h p = ap (unmasked τ h) (feistel_there F (masked τ h p)) ∙ unmasked_masked τ h p
 out_in Decipher F τ h c = blended_unblended τ h c
 
 pub text_restored : (d : Direction) (F : Block → Block) (g : Block → List Block → Block) (T : Block) (p : Text)
-    → transformed (opposite d) F g T (transformed d F g T p) ≡ p
+    → transformed (reversed d) F g T (transformed d F g T p) ≡ p
 unfolding transformed finished
 text_restored d F g T p =
     let τ : Block = hash_key F in
@@ -81,7 +77,7 @@ text_restored d F g T p =
     let b : Front = to_middle d F τ (tail_hash g τ T M) p.front in
     let z : Block = ◌⊕◌ b.first b.second in
     let N : List Block = counter_mode F z 1 M in
-    let P : List Block → Text = λ L. record { front = from_middle (opposite d) F τ (tail_hash g τ T L) b; tail = L } in
-    ap (λ (e : Front). finished (opposite d) F g T e N) (in_out d F τ (tail_hash g τ T N) b)
+    let P : List Block → Text = λ L. record { front = from_middle (reversed d) F τ (tail_hash g τ T L) b; tail = L } in
+    ap (λ (e : Front). finished (reversed d) F g T e N) (in_out d F τ (tail_hash g τ T N) b)
     ∙ ap P (counter_mode_twice F z 1 M)
     ∙ ap (λ (e : Front). record { front = e; tail = M }) (out_in d F τ (tail_hash g τ T M) p.front)

@@ -14,6 +14,11 @@ refusal_number Figures = 6
 refusal_number SheetBroken = 7
 refusal_number OutOfTurn = 8
 
+-- 0 where nothing is refused, or the refusal's number
+abbrev pub answer_number : Result (Unit {0}) Refusal → ℕ
+answer_number (Ok x) = 0
+answer_number (Err r) = refusal_number r
+
 abbrev pub both : Bool → Bool → Bool
 both true b = b
 both false b = false

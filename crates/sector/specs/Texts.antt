@@ -43,3 +43,8 @@ deciphered_bytes F g T t = bytes_of (deciphered F g T (text_of t))
 abbrev pub transformed_bytes : Direction → (Block → Block) → (Block → List Block → Block) → Block → List ℕ → List ℕ
 transformed_bytes Encipher = enciphered_bytes
 transformed_bytes Decipher = deciphered_bytes
+
+-- the other direction
+abbrev pub reversed : Direction → Direction
+reversed Encipher = Decipher
+reversed Decipher = Encipher

@@ -3,19 +3,22 @@ ghost use Rattle.polynomials.specs.Blocks.{blocks_of};
 ghost use Rattle.sector.specs.Texts.{joined};
 ghost use Rattle.sector.specs.Transform.{counter_mode};
 
+use crate::cipher::SectorCipher;
 use crate::pieces::{block_at, put_block};
 use ciphers::function::BlockFunction;
 use elements::element::Arithmetic;
 use elements::values::Block;
 
-// Counter mode over the blocks of a tail, the first with the counter 1.
-pub(crate) fn count<F: BlockFunction>(f: &F, z: Block, text: &[u8], output: &mut [u8])
-    requires { (length output.old ≡ length text.now) × (length text.now % 16 ≡ 0) }
-    ensures { output.new ≡ joined (counter_mode (F.BlockFunction.function f.now) z 1 (blocks_of text.now)) }
-{
-    for k in 0..text.len() / 16 {
-        let mask = f.call(z.add(Block::new(k as u128 + 1)));
-        let x = block_at(text, 16 * k).add(mask);
-        put_block(output, 16 * k, x);
+impl<F: BlockFunction, H> SectorCipher<F, H> {
+    // Counter mode over the blocks of a tail, the first with the counter 1.
+    pub(crate) fn count(&self, z: Block, text: &[u8], output: &mut [u8])
+        requires { (length output.old ≡ length text.now) × (length text.now % 16 ≡ 0) }
+        ensures { output.new ≡ joined (counter_mode (F.function self.now.function) z 1 (blocks_of text.now)) }
+    {
+        for k in 0..text.len() / 16 {
+            let mask = self.function.call(z.add(Block::new(k as u128 + 1)));
+            let x = block_at(text, 16 * k).add(mask);
+            put_block(output, 16 * k, x);
+        }
     }
 }

@@ -1,5 +1,6 @@
 #![tactic(auto)]
 
+pub mod cipher;
 mod counter;
 pub mod cover;
 pub mod numbers;

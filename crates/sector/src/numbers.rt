@@ -1,5 +1,5 @@
 ghost use Rattle.std.specs.Prelude.{◌≡◌};
-ghost use Rattle.sector.specs.Refusals.{refusal_number};
+ghost use Rattle.sector.specs.Refusals.{answer_number, refusal_number};
 
 use crate::refusal::Refusal;
 
@@ -8,15 +8,16 @@ impl Refusal {
     pub fn number(self) -> u8
         ensures { result ≡ refusal_number self }
     {
-        match self {
-            Refusal::TextLength => 1,
-            Refusal::BufferLength => 2,
-            Refusal::WorkingLength => 3,
-            Refusal::SectorNumber => 4,
-            Refusal::SectorFailed => 5,
-            Refusal::Figures => 6,
-            Refusal::SheetBroken => 7,
-            Refusal::OutOfTurn => 8,
-        }
+        self as u8
+    }
+}
+
+// 0 where nothing is refused, or the refusal's number.
+pub fn answer_number(answer: Result<(), Refusal>) -> u8
+    ensures { result ≡ answer_number answer }
+{
+    match answer {
+        Ok(()) => 0,
+        Err(refusal) => refusal.number(),
     }
 }

@@ -7,7 +7,7 @@ pub struct Front {
     pub second: Block,
 }
 
-#[derive(Clone, Copy)]
+#[derive(Clone, Copy, Debug, PartialEq, Eq)]
 pub enum Direction {
     Encipher,
     Decipher,

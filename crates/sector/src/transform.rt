@@ -1,14 +1,12 @@
 ghost use Rattle.std.specs.Prelude.{◌≡◌, ◌-◌, ◌%◌, ◌≤◌, true, length, replicate, is_ok, if◌then◌else◌};
 ghost use Rattle.sector.specs.Refusals.{admitted as admitted_length, answer as answer_of};
-ghost use Rattle.sector.specs.Texts.{enciphered_bytes, deciphered_bytes, transformed_bytes};
+ghost use Rattle.sector.specs.Texts.{reversed, transformed_bytes};
 ghost use Rattle.sector.specs.Transform.{tweak as tweak_of};
 
-use crate::counter::count;
+use crate::cipher::SectorCipher;
 use crate::cover::cover_stack;
 use crate::pieces::{get_front, put_front};
 use crate::refusal::Refusal;
-use crate::steps::{from_middle, hash_key, to_middle};
-use crate::tails::tail_hash;
 use crate::text::Direction;
 use ciphers::function::BlockFunction;
 use elements::element::Arithmetic;
@@ -35,63 +33,6 @@ fn admitted(n: usize) -> bool
     n % 16 == 0 && 64 <= n && n <= 4096
 }
 
-// A call whose lengths are right.
-fn accepted<F: BlockFunction, H: BlockHash>(
-    direction: Direction,
-    f: &F,
-    g: &H,
-    tweak: Block,
-    text: &[u8],
-    output: &mut [u8],
-    working: &mut [u8],
-)
-    requires { (64 ≤ length text.now) × ((length text.now % 16 ≡ 0) × ((length output.old ≡ length text.now) × (length text.now - 16 ≤ length working.old))) }
-    ensures { output.new ≡ transformed_bytes direction (F.BlockFunction.function f.now) (H.BlockHash.hash g.now) tweak text.now }
-{
-    let key = hash_key(f);
-    let n = text.len() - 16;
-    let h = tail_hash(g, key, tweak, &text[32..], &mut working[0..n]);
-    let middle = to_middle(direction, f, key, h, get_front(text));
-    count(
-        f,
-        middle.first.add(middle.second),
-        &text[32..],
-        &mut output[32..],
-    );
-    let h = tail_hash(g, key, tweak, &output[32..], &mut working[0..n]);
-    put_front(
-        &mut output[0..32],
-        from_middle(direction, f, key, h, middle),
-    );
-}
-
-fn transform<F: BlockFunction, H: BlockHash>(
-    direction: Direction,
-    f: &F,
-    g: &H,
-    tweak: Block,
-    text: &[u8],
-    output: &mut [u8],
-    working: &mut [u8],
-) -> Result<(), Refusal>
-    ensures answer { result ≡ answer_of (length text.now) (length output.old) (length working.old) }
-    ensures output { output.new ≡ (if is_ok result then transformed_bytes direction (F.BlockFunction.function f.now) (H.BlockHash.hash g.now) tweak text.now else output.old) }
-    ensures working { working.new ≡ replicate (length working.old) 0 }
-{
-    let guard = Guard { bytes: working };
-    if !admitted(text.len()) {
-        return Err(Refusal::TextLength);
-    }
-    if output.len() != text.len() {
-        return Err(Refusal::BufferLength);
-    }
-    if guard.bytes.len() < text.len() - 16 {
-        return Err(Refusal::WorkingLength);
-    }
-    accepted(direction, f, g, tweak, text, output, guard.bytes);
-    Ok(())
-}
-
 // The number of a sector as a block.
 fn tweak_block(sector: u64) -> Block
     ensures { result ≡ tweak_of sector }
@@ -111,42 +52,80 @@ fn settled(answer: Result<(), Refusal>, zero: u8) -> Result<(), Refusal>
     }
 }
 
-// Enciphers the text of a sector into the output. Refused: a text that is not a multiple of 16 bytes from 64 to 4,096;
-// an output that is not as long as the text; fewer working bytes than the text's less 16. The output is then as it
-// was. The working bytes are zero afterwards, refused or not.
-pub fn encipher<F: BlockFunction, H: BlockHash>(
-    f: &F,
-    g: &H,
-    sector: u64,
-    text: &[u8],
-    output: &mut [u8],
-    working: &mut [u8],
-) -> Result<(), Refusal>
-    ensures answer { result ≡ answer_of (length text.now) (length output.old) (length working.old) }
-    ensures output { output.new ≡ (if is_ok result then enciphered_bytes (F.BlockFunction.function f.now) (H.BlockHash.hash g.now) (tweak_of sector) text.now else output.old) }
-    ensures inverse { is_ok result ≡ true → deciphered_bytes (F.BlockFunction.function f.now) (H.BlockHash.hash g.now) (tweak_of sector) output.new ≡ text.now }
-    ensures working { working.new ≡ replicate (length working.old) 0 }
-{
-    let tweak = tweak_block(sector);
-    let answer = transform(Direction::Encipher, f, g, tweak, text, output, working);
-    settled(answer, cover_stack((sector % 256) as u8))
-}
+impl<F: BlockFunction, H: BlockHash> SectorCipher<F, H> {
+    // A call whose lengths are right.
+    fn accepted(
+        &self,
+        direction: Direction,
+        tweak: Block,
+        text: &[u8],
+        output: &mut [u8],
+        working: &mut [u8],
+    )
+        requires { (64 ≤ length text.now) × ((length text.now % 16 ≡ 0) × ((length output.old ≡ length text.now) × (length text.now - 16 ≤ length working.old))) }
+        ensures { output.new ≡ transformed_bytes direction (F.function self.now.function) (H.hash self.now.hash) tweak text.now }
+    {
+        let key = self.hash_key();
+        let n = text.len() - 16;
+        let h = self.tail_hash(key, tweak, &text[32..], &mut working[0..n]);
+        let middle = self.to_middle(direction, key, h, get_front(text));
+        self.count(
+            middle.first.add(middle.second),
+            &text[32..],
+            &mut output[32..],
+        );
+        let h = self.tail_hash(key, tweak, &output[32..], &mut working[0..n]);
+        put_front(
+            &mut output[0..32],
+            self.from_middle(direction, key, h, middle),
+        );
+    }
 
-// Deciphers the text of a sector into the output, with the refusals of `encipher`.
-pub fn decipher<F: BlockFunction, H: BlockHash>(
-    f: &F,
-    g: &H,
-    sector: u64,
-    text: &[u8],
-    output: &mut [u8],
-    working: &mut [u8],
-) -> Result<(), Refusal>
-    ensures answer { result ≡ answer_of (length text.now) (length output.old) (length working.old) }
-    ensures output { output.new ≡ (if is_ok result then deciphered_bytes (F.BlockFunction.function f.now) (H.BlockHash.hash g.now) (tweak_of sector) text.now else output.old) }
-    ensures inverse { is_ok result ≡ true → enciphered_bytes (F.BlockFunction.function f.now) (H.BlockHash.hash g.now) (tweak_of sector) output.new ≡ text.now }
-    ensures working { working.new ≡ replicate (length working.old) 0 }
-{
-    let tweak = tweak_block(sector);
-    let answer = transform(Direction::Decipher, f, g, tweak, text, output, working);
-    settled(answer, cover_stack((sector % 256) as u8))
+    // A call, which leaves the stack uncovered.
+    #[inline(never)]
+    fn uncovered(
+        &self,
+        direction: Direction,
+        tweak: Block,
+        text: &[u8],
+        output: &mut [u8],
+        working: &mut [u8],
+    ) -> Result<(), Refusal>
+        ensures answer { result ≡ answer_of (length text.now) (length output.old) (length working.old) }
+        ensures output { output.new ≡ (if is_ok result then transformed_bytes direction (F.function self.now.function) (H.hash self.now.hash) tweak text.now else output.old) }
+        ensures working { working.new ≡ replicate (length working.old) 0 }
+    {
+        let guard = Guard { bytes: working };
+        if !admitted(text.len()) {
+            return Err(Refusal::TextLength);
+        }
+        if output.len() != text.len() {
+            return Err(Refusal::BufferLength);
+        }
+        if guard.bytes.len() < text.len() - 16 {
+            return Err(Refusal::WorkingLength);
+        }
+        self.accepted(direction, tweak, text, output, guard.bytes);
+        Ok(())
+    }
+
+    // Enciphers or deciphers the text of a sector into the output. Refused: a text that is not a multiple of 16 bytes
+    // from 64 to 4,096; an output that is not as long as the text; fewer working bytes than the text's less 16. The output
+    // is then as it was. The working bytes are zero afterwards, refused or not.
+    pub fn transform(
+        &self,
+        direction: Direction,
+        sector: u64,
+        text: &[u8],
+        output: &mut [u8],
+        working: &mut [u8],
+    ) -> Result<(), Refusal>
+        ensures answer { result ≡ answer_of (length text.now) (length output.old) (length working.old) }
+        ensures output { output.new ≡ (if is_ok result then transformed_bytes direction (F.function self.now.function) (H.hash self.now.hash) (tweak_of sector) text.now else output.old) }
+        ensures inverse { is_ok result ≡ true → transformed_bytes (reversed direction) (F.function self.now.function) (H.hash self.now.hash) (tweak_of sector) output.new ≡ text.now }
+        ensures working { working.new ≡ replicate (length working.old) 0 }
+    {
+        let answer = self.uncovered(direction, tweak_block(sector), text, output, working);
+        settled(answer, cover_stack((sector % 256) as u8))
+    }
 }

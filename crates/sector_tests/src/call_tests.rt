@@ -1,45 +1,31 @@
 // Which calls are refused, and what they leave.
 use crate::constant::Always;
-use ciphers::function::BlockFunction;
 use hashing::BrwHash;
-use sector::refusal::Refusal;
-use sector::transform::{decipher, encipher};
+use sector::cipher::SectorCipher;
+use sector::numbers::answer_number;
+use sector::text::Direction;
 use std::process::Abort;
 
-fn number(r: Result<(), Refusal>) -> u8 {
-    match r {
-        Ok(_) => 0,
-        Err(refusal) => refusal.number(),
-    }
-}
-
 fn all(bytes: &[u8], value: u8) -> bool {
-    let mut same = true;
-    for b in bytes {
-        same = same && *b == value;
-    }
-    same
+    bytes.iter().all(|b| *b == value)
 }
 
-// Both calls answer this number for these lengths, leave the output if they refuse, and zero the working bytes.
+// Both directions answer this number for these lengths, leave the output if they refuse, and zero the working bytes.
 fn answers(rt: &impl Abort, text: &[u8], output: &mut [u8], working: &mut [u8], expected: u8) {
-    let f = Always { value: 2 };
-    output.fill(0xaa);
-    working.fill(0x55);
-    assert_eq!(rt;
-        number(encipher(&f, &BrwHash, 5, text, output, working)),
-        expected
-    );
-    assert!(rt; expected == 0 || all(output, 0xaa));
-    assert!(rt; all(working, 0));
-    output.fill(0xaa);
-    working.fill(0x55);
-    assert_eq!(rt;
-        number(decipher(&f, &BrwHash, 5, text, output, working)),
-        expected
-    );
-    assert!(rt; expected == 0 || all(output, 0xaa));
-    assert!(rt; all(working, 0));
+    let cipher = SectorCipher {
+        function: Always { value: 2 },
+        hash: BrwHash,
+    };
+    for direction in [Direction::Encipher, Direction::Decipher] {
+        output.fill(0xaa);
+        working.fill(0x55);
+        assert_eq!(rt;
+            answer_number(cipher.transform(direction, 5, text, output, working)),
+            expected
+        );
+        assert!(rt; expected == 0 || all(output, 0xaa));
+        assert!(rt; all(working, 0));
+    }
 }
 
 // One call each way with so many bytes of each.

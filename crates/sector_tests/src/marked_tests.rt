@@ -1,8 +1,8 @@
 // The marked cases of the transform on the code: `sector` proves the same of the definitions.
 use crate::constant::Always;
-use ciphers::function::BlockFunction;
 use hashing::{BlockHash, BrwHash, HornerHash};
-use sector::transform::{decipher, encipher};
+use sector::cipher::SectorCipher;
+use sector::text::Direction;
 use std::process::Abort;
 
 // A text of four blocks whose bytes are all zero but each block's last.
@@ -23,12 +23,35 @@ fn goes_to<H: BlockHash>(
     plain: [u8; 64],
     enciphered: [u8; 64],
 ) {
-    let function = Always { value: f };
+    let cipher = SectorCipher {
+        function: Always { value: f },
+        hash: g,
+    };
     let mut output = [0xff; 64];
     let mut working = [0xff; 48];
-    assert!(rt; encipher(&function, g, sector, &plain, &mut output, &mut working).is_ok());
+    assert!(rt;
+        cipher
+            .transform(
+                Direction::Encipher,
+                sector,
+                &plain,
+                &mut output,
+                &mut working
+            )
+            .is_ok()
+    );
     assert_eq!(rt; output, enciphered);
-    assert!(rt; decipher(&function, g, sector, &enciphered, &mut output, &mut working).is_ok());
+    assert!(rt;
+        cipher
+            .transform(
+                Direction::Decipher,
+                sector,
+                &enciphered,
+                &mut output,
+                &mut working
+            )
+            .is_ok()
+    );
     assert_eq!(rt; output, plain);
     assert_eq!(rt; working, [0; 48]);
 }
