@@ -55,9 +55,13 @@ impl Cipher {
 impl BlockFunction for AnyCipher {
     const KEY_LENGTH: usize = 16;
 
-    ghost KEY_LENGTH = { 16 };
+    ghost key_length = { 16 };
 
     ghost function = { keyed_of };
+
+    fn key_bytes() -> usize {
+        Self::KEY_LENGTH
+    }
 
     fn call(&self, x: Block) -> Block {
         match self {

@@ -6,13 +6,19 @@ use elements::values::Block;
 // A function from blocks to blocks, invertible or not. Its call answers the function's value every time, whatever
 // came before; code that is generic over block functions knows this and the key's length alone.
 pub trait BlockFunction {
-    // How many bytes the key has, for code and for clauses.
+    // How many bytes the key has.
     const KEY_LENGTH: usize;
 
-    ghost KEY_LENGTH: { ℕ };
+    // The constant as clauses name it. By the constant's own name the checker states no implementation for a type with a
+    // lifetime, such as a reference: it "cannot give this method the clauses of its trait yet".
+    ghost key_length: { ℕ };
 
     // The function itself.
     ghost function: { Self → Block → Block };
+
+    // The constant, for generic code.
+    fn key_bytes() -> usize
+        ensures { result ≡ key_length };
 
     fn call(&self, x: Block) -> Block
         ensures { result ≡ function self.now x };

@@ -64,9 +64,13 @@ impl Speck128 {
 impl BlockFunction for Speck128 {
     const KEY_LENGTH: usize = 16;
 
-    ghost KEY_LENGTH = { 16 };
+    ghost key_length = { 16 };
 
     ghost function = { speck_of };
+
+    fn key_bytes() -> usize {
+        Self::KEY_LENGTH
+    }
 
     fn call(&self, x: Block) -> Block {
         let mut text = Words::from(x);

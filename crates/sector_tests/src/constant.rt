@@ -12,9 +12,13 @@ pub struct Always {
 impl BlockFunction for Always {
     const KEY_LENGTH: usize = 0;
 
-    ghost KEY_LENGTH = { 0 };
+    ghost key_length = { 0 };
 
     ghost function = { λ f _. block f.value };
+
+    fn key_bytes() -> usize {
+        Self::KEY_LENGTH
+    }
 
     fn call(&self, _x: Block) -> Block {
         Block::new(self.value)
