@@ -4,7 +4,6 @@ ghost use Rattle.sector.specs.Texts.{joined};
 ghost use Rattle.sector.specs.Transform.{counter_mode};
 
 use crate::cipher::SectorCipher;
-use crate::pieces::{block_at, put_block};
 use ciphers::function::BlockFunction;
 use elements::element::Arithmetic;
 use elements::values::Block;
@@ -15,10 +14,12 @@ impl<F: BlockFunction, H> SectorCipher<F, H> {
         requires { (length output.old ≡ length text.now) × (length text.now % 16 ≡ 0) }
         ensures { output.new ≡ joined (counter_mode (F.function self.now.function) z 1 (blocks_of text.now)) }
     {
-        for k in 0..text.len() / 16 {
+        let (blocks, _) = text.as_chunks();
+        for (k, x) in blocks.iter().enumerate() {
             let mask = self.function.call(z.add(Block::new(k as u128 + 1)));
-            let x = block_at(text, 16 * k).add(mask);
-            put_block(output, 16 * k, x);
+            let y = Block::from_bytes(*x).add(mask).to_bytes();
+            // By index: of what `as_chunks_mut` or `chunks_exact_mut` lent, the length alone is known afterwards.
+            output[16 * k..16 * k + 16].copy_from_slice(&y);
         }
     }
 }

@@ -67,7 +67,8 @@ impl<F: BlockFunction, H> SectorCipher<F, H> {
         Front { first, second }
     }
 
-    // From the front of the text, with the hash of its tail, to the middle.
+    // From the front of the text, with the hash of its tail, to the middle. A match here and in `from_middle`: steps handed
+    // in as closures would be chosen by the same match.
     pub(crate) fn to_middle(&self, direction: Direction, key: Block, h: Block, p: Front) -> Front
         ensures { result ≡ to_middle_of direction (F.function self.now.function) key h p }
     {

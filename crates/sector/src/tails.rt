@@ -13,9 +13,9 @@ fn put_list(list: &mut [u8], first: &[u8], second: &[u8])
     requires { length list.old ≡ length first.now + length second.now }
     ensures { list.new ≡ first.now ++ second.now }
 {
-    let n = first.len();
-    list[0..n].copy_from_slice(first);
-    list[n..].copy_from_slice(second);
+    let (front, back) = list.split_at_mut(first.len());
+    front.copy_from_slice(first);
+    back.copy_from_slice(second);
 }
 
 impl<F, H: BlockHash> SectorCipher<F, H> {
