@@ -1,4 +1,4 @@
-ghost use Rattle.std.specs.Prelude.{◌≡◌};
+ghost use Rattle.std.specs.Prelude.{◌≡◌, ◌==◌, is_ok};
 ghost use Rattle.sector.specs.Refusals.{answer_number, refusal_number};
 
 use crate::refusal::Refusal;
@@ -14,7 +14,8 @@ impl Refusal {
 
 // 0 where nothing is refused, or the refusal's number.
 pub fn answer_number(answer: Result<(), Refusal>) -> u8
-    ensures { result ≡ answer_number answer }
+    ensures number { result ≡ answer_number answer }
+    ensures accepted { (result == 0) ≡ is_ok answer }
 {
     match answer {
         Ok(()) => 0,

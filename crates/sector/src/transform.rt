@@ -4,7 +4,7 @@ ghost use Rattle.sector.specs.Texts.{reversed, transformed_bytes};
 ghost use Rattle.sector.specs.Transform.{tweak as tweak_of};
 
 use crate::cipher::SectorCipher;
-use crate::cover::cover_stack;
+use crate::cover::covered;
 use crate::pieces::{get_front, put_front};
 use crate::refusal::Refusal;
 use crate::text::Direction;
@@ -109,11 +109,6 @@ impl<F: BlockFunction, H: BlockHash> SectorCipher<F, H> {
         ensures working { working.new ≡ replicate (length working.old) 0 }
     {
         let answer = self.uncovered(direction, tweak_block(sector), text, output, working);
-        // The compiler does not find out that the test always holds, and so keeps the cover.
-        if cover_stack((sector % 256) as u8) == 0 {
-            answer
-        } else {
-            Err(Refusal::WorkingLength)
-        }
+        covered(answer, (sector % 256) as u8)
     }
 }
