@@ -1,13 +1,14 @@
 -- Block functions and hashes by number, and what calls on sectors answer. Assumes nothing.
-use Rattle.std.specs.Prelude.{ℕ, Bool, true, cond, List, length, Ok, Err, Result, ◌==◌}
+use Rattle.std.specs.Prelude.{ℕ, Bool, true, cond, List, length, Err, Result, ◌==◌}
 use Rattle.elements.specs.declared.values.Block.{Block}
 use Rattle.ciphers.specs.Aes.{aes_128}
 use Rattle.ciphers.specs.Speck.{speck}
 use Rattle.hashing.specs.Hashes.{horner_hash, brw_hash}
-use Rattle.sector.specs.Refusals.{refusal_number, answer}
+use Rattle.sector.specs.Refusals.{answer, answer_number}
 use Rattle.sector.specs.Texts.{transformed_bytes}
 use Rattle.sector.specs.Transform.{tweak}
 use Rattle.sector.specs.declared.refusal.Refusal.{Refusal}
+use Rattle.sector.specs.declared.refusal.Refusal.TheVariants.{Figures}
 use Rattle.sector.specs.declared.text.Direction.{Direction}
 use Rattle.capi.specs.Blocks.{whole}
 
@@ -23,15 +24,14 @@ hash_of n = cond (n == 1) horner_hash brw_hash
 abbrev pub named : ℕ → Bool
 named n = cond (n == 1) true (n == 2)
 
--- 0, or the refusal's number
-abbrev pub result_number : Result (Unit {0}) Refusal → ℕ
-result_number (Ok x) = 0
-result_number (Err r) = refusal_number r
+-- what a call answers: refused for an unknown block function or hash or the wrong length of a key, else as the transform does
+abbrev pub sector_result : ℕ → ℕ → List ℕ → List ℕ → List ℕ → List ℕ → Result (Unit {0}) Refusal
+sector_result cipher hash key text output working =
+    cond (named cipher) (cond (whole key) (cond (named hash) (answer (length text) (length output) (length working)) (Err Figures)) (Err Figures)) (Err Figures)
 
--- what a call answers: 6 for an unknown block function or hash or the wrong length of a key, else as the transform does
+-- the same by numbers: 6 for an unknown block function or hash or the wrong length of a key
 abbrev pub sector_answer : ℕ → ℕ → List ℕ → List ℕ → List ℕ → List ℕ → ℕ
-sector_answer cipher hash key text output working =
-    cond (named cipher) (cond (whole key) (cond (named hash) (result_number (answer (length text) (length output) (length working))) 6) 6) 6
+sector_answer cipher hash key text output working = answer_number (sector_result cipher hash key text output working)
 
 -- what the output holds after a call that gave this answer
 abbrev pub transformed_or : ℕ → Direction → (Block → Block) → (Block → List Block → Block) → ℕ → List ℕ → List ℕ → List ℕ

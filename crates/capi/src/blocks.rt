@@ -1,100 +1,70 @@
-ghost use Rattle.std.specs.Prelude.{◌≡◌, if◌then◌else◌, Some, None};
+ghost use Rattle.std.specs.Prelude.{◌≡◌, Ok, Err, is_ok, if◌then◌else◌};
 ghost use Rattle.elements.specs.Values.{block_operations};
-ghost use Rattle.ciphers.specs.Aes.{aes_128};
-ghost use Rattle.ciphers.specs.Speck.{speck};
-ghost use Rattle.capi.specs.Blocks.{whole, block_in, bytes_out, product_answer, cipher_answer, given};
-ghost use Rattle.capi.specs.Sectors.{cipher_of};
+ghost use Rattle.ciphers.specs.Choice.{cipher_of};
+ghost use Rattle.sector.specs.declared.refusal.Refusal.TheVariants.{BufferLength};
+ghost use Rattle.capi.specs.Blocks.{whole, block_in, bytes_out, product_result, cipher_result};
 
 use ciphers::aes::Aes128;
+use ciphers::choice::Cipher;
 use ciphers::function::BlockFunction;
 use ciphers::speck::Speck128;
 use elements::element::Arithmetic;
 use elements::values::Block;
-use sector::cover::cover_stack;
+use sector::cover::covered;
+use sector::numbers::answer_number;
+use sector::refusal::Refusal;
 
-// A buffer of the wrong length.
-pub(crate) const BUFFER_LENGTH: u8 = 2;
-// A key of the wrong length.
-pub(crate) const FIGURES: u8 = 6;
-
-// 16 bytes as an array.
-pub(crate) fn sixteen(bytes: &[u8]) -> Option<[u8; 16]>
-    ensures { result ≡ (if whole bytes.now then Some bytes.now else None) }
+// 16 bytes as an array, or this refusal.
+pub(crate) fn sixteen(bytes: &[u8], refusal: Refusal) -> Result<[u8; 16], Refusal>
+    ensures { result ≡ (if whole bytes.now then Ok bytes.now else Err refusal) }
 {
-    if bytes.len() != 16 {
-        return None;
-    }
-    let mut piece = [0; 16];
-    piece.copy_from_slice(bytes);
-    Some(piece)
+    <[u8; 16]>::try_from(bytes).map_err(|_| refusal)
 }
 
-// Writes a block into 16 bytes. Answers 0, or 2 where there are not 16.
-fn put_block(x: Block, output: &mut [u8]) -> u8
-    ensures answer { result ≡ (if whole output.old then 0 else 2) }
-    ensures output { output.new ≡ (if whole output.old then bytes_out x else output.old) }
+// Writes a block into 16 bytes.
+#[tactic(auto, unfolding(crate::specs::Blocks::bytes_out))]
+fn put_block(x: Block, output: &mut [u8]) -> Result<(), Refusal>
+    ensures answer { result ≡ (if whole output.old then Ok tt else Err BufferLength) }
+    ensures output { output.new ≡ (if is_ok result then bytes_out x else output.old) }
 {
     if output.len() != 16 {
-        return BUFFER_LENGTH;
+        return Err(Refusal::BufferLength);
     }
     output.copy_from_slice(&x.to_bytes());
-    0
+    Ok(())
 }
 
-// One block through a block function.
-fn call_block<F: BlockFunction>(f: &F, plain: &[u8], output: &mut [u8]) -> u8
-    ensures answer { result ≡ (if whole plain.now then (if whole output.old then 0 else 2) else 2) }
-    ensures output { output.new ≡ given result (F.BlockFunction.function f.now (block_in plain.now)) output.old }
+// The product of two blocks. Refused where one of the three is not 16 bytes long; `product` is then as it was.
+pub fn block_product(a: &[u8], b: &[u8], product: &mut [u8]) -> Result<(), Refusal>
+    ensures answer { result ≡ product_result a.now b.now product.old }
+    ensures output { product.new ≡ (if is_ok result then bytes_out (block_operations.product (block_in a.now) (block_in b.now)) else product.old) }
 {
-    match sixteen(plain) {
-        Some(x) => put_block(f.call(Block::from_bytes(x)), output),
-        None => BUFFER_LENGTH,
-    }
+    let x = Block::from_bytes(sixteen(a, Refusal::BufferLength)?);
+    let y = Block::from_bytes(sixteen(b, Refusal::BufferLength)?);
+    put_block(x.mul(y), product)
 }
 
-// The product of two blocks. Answers 0, or 2 where one of the three is not 16 bytes long; `product` is then as it was.
-pub fn kizdolur_block_product(a: &[u8], b: &[u8], product: &mut [u8]) -> u8
-    ensures answer { result ≡ product_answer a.now b.now product.old }
-    ensures output { product.new ≡ given result (block_operations.product (block_in a.now) (block_in b.now)) product.old }
+// One block through a cipher, which leaves the stack uncovered.
+#[inline(never)]
+fn uncovered(cipher: Cipher, key: &[u8], plain: &[u8], output: &mut [u8]) -> Result<(), Refusal>
+    ensures answer { result ≡ cipher_result key.now plain.now output.old }
+    ensures output { output.new ≡ (if is_ok result then bytes_out (cipher_of cipher key.now (block_in plain.now)) else output.old) }
 {
-    match (sixteen(a), sixteen(b)) {
-        (Some(x), Some(y)) => put_block(Block::from_bytes(x).mul(Block::from_bytes(y)), product),
-        _ => BUFFER_LENGTH,
-    }
+    let key = sixteen(key, Refusal::Figures)?;
+    let x = Block::from_bytes(sixteen(plain, Refusal::BufferLength)?);
+    let y = match cipher {
+        Cipher::Aes => Aes128::new(key).call(x),
+        Cipher::Speck => Speck128::new(key).call(x),
+    };
+    put_block(y, output)
 }
 
-// One block through the block function of a number, under a key.
-fn block_by(cipher: u8, key: &[u8], plain: &[u8], output: &mut [u8]) -> u8
-    ensures answer { result ≡ cipher_answer key.now plain.now output.old }
-    ensures output { output.new ≡ given result (cipher_of cipher key.now (block_in plain.now)) output.old }
+// One block through a cipher under a key. Refused where the key, the block or the output is not 16 bytes long; the output is then
+// as it was.
+pub fn block_by(cipher: Cipher, key: &[u8], plain: &[u8], output: &mut [u8]) -> Result<(), Refusal>
+    ensures answer { result ≡ cipher_result key.now plain.now output.old }
+    ensures output { output.new ≡ (if is_ok result then bytes_out (cipher_of cipher key.now (block_in plain.now)) else output.old) }
 {
-    match sixteen(key) {
-        Some(key) => {
-            if cipher == 1 {
-                call_block(&Aes128::new(key), plain, output)
-            } else {
-                call_block(&Speck128::new(key), plain, output)
-            }
-        }
-        None => FIGURES,
-    }
-}
-
-// AES-128 of one block. Answers 0; 6 where the key is not 16 bytes long; or 2 where the block or the output is not.
-// Refused, the output is as it was.
-pub fn kizdolur_aes128_block(key: &[u8], plain: &[u8], output: &mut [u8]) -> u8
-    ensures answer { result ≡ cipher_answer key.now plain.now output.old }
-    ensures output { output.new ≡ given result (aes_128 key.now (block_in plain.now)) output.old }
-{
-    let answer = block_by(1, key, plain, output);
-    answer + cover_stack(answer)
-}
-
-// Speck128/128 of one block, answered as AES-128 is.
-pub fn kizdolur_speck128_block(key: &[u8], plain: &[u8], output: &mut [u8]) -> u8
-    ensures answer { result ≡ cipher_answer key.now plain.now output.old }
-    ensures output { output.new ≡ given result (speck key.now (block_in plain.now)) output.old }
-{
-    let answer = block_by(2, key, plain, output);
-    answer + cover_stack(answer)
+    let answer = uncovered(cipher, key, plain, output);
+    covered(answer, answer_number(answer))
 }

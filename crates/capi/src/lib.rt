@@ -1,5 +1,6 @@
 #![tactic(auto)]
 
-// Functions for callers in C, on byte slices: each slice is a pointer and then a length (include/kizdolur.h).
+// What `capi_c` exports to callers in C, on byte slices, without the numbers by which C is answered.
 pub mod blocks;
+mod method;
 pub mod sectors;

@@ -1,74 +1,106 @@
-ghost use Rattle.std.specs.Prelude.{◌≡◌, length, replicate, if◌then◌else◌};
+ghost use Rattle.std.specs.Prelude.{◌≡◌, length, replicate, is_ok, if◌then◌else◌};
+ghost use Rattle.ciphers.specs.Choice.{cipher_numbered, cipher_of};
+ghost use Rattle.hashing.specs.Choice.{hash_numbered, hash_of};
 ghost use Rattle.sector.specs.Refusals.{answer as transform_answer};
-ghost use Rattle.sector.specs.declared.text.Direction.TheVariants.{Encipher, Decipher};
-ghost use Rattle.capi.specs.Blocks.{whole};
-ghost use Rattle.capi.specs.Sectors.{cipher_of, hash_of, named, result_number, sector_answer, transformed_or};
+ghost use Rattle.sector.specs.Texts.{transformed_bytes};
+ghost use Rattle.sector.specs.Transform.{tweak};
+ghost use Rattle.capi.specs.Methods.{method_of};
+ghost use Rattle.capi.specs.Sectors.{cipher_of as cipher_by_number, hash_of as hash_by_number, sector_result};
 
-use crate::blocks::{FIGURES, sixteen};
+use crate::blocks::sixteen;
+use crate::method::Method;
 use ciphers::aes::Aes128;
+use ciphers::choice::Cipher;
 use ciphers::function::BlockFunction;
 use ciphers::speck::Speck128;
-use hashing::{BlockHash, BrwHash, HornerHash};
-use sector::cover::cover_stack;
+use hashing::choice::AnyHash;
+use hashing::{BrwHash, HornerHash};
+use sector::cipher::SectorCipher;
+use sector::cover::covered;
+use sector::numbers::answer_number;
 use sector::refusal::Refusal;
 use sector::text::Direction;
-use sector::transform::{decipher, encipher};
 
-fn number(r: Result<(), Refusal>) -> u8
-    ensures { result ≡ result_number r }
-{
-    match r {
-        Ok(_) => 0,
-        Err(refusal) => refusal.number(),
-    }
-}
-
-// The transform in a direction.
-fn run<F: BlockFunction, H: BlockHash>(
+// The transform with a hash that is chosen at run time. For each hash a cipher of its own type, so that nothing is chosen again
+// for each block.
+fn by_hash<F: BlockFunction>(
+    function: &F,
+    hash: AnyHash,
     direction: Direction,
-    f: &F,
-    g: &H,
     sector: u64,
     text: &[u8],
     output: &mut [u8],
     working: &mut [u8],
-) -> u8
-    ensures answer { result ≡ result_number (transform_answer (length text.now) (length output.old) (length working.old)) }
-    ensures output { output.new ≡ transformed_or result direction (F.BlockFunction.function f.now) (H.BlockHash.hash g.now) sector text.now output.old }
-    ensures working { working.new ≡ replicate (length working.old) 0 }
-{
-    match direction {
-        Direction::Encipher => number(encipher(f, g, sector, text, output, working)),
-        Direction::Decipher => number(decipher(f, g, sector, text, output, working)),
-    }
-}
-
-// The same with the hash by its number.
-fn run_hash<F: BlockFunction>(
-    direction: Direction,
-    f: &F,
-    hash: u8,
-    sector: u64,
-    text: &[u8],
-    output: &mut [u8],
-    working: &mut [u8],
-) -> u8
-    ensures answer { result ≡ (if named hash then result_number (transform_answer (length text.now) (length output.old) (length working.old)) else 6) }
-    ensures output { output.new ≡ transformed_or result direction (F.BlockFunction.function f.now) (hash_of hash) sector text.now output.old }
+) -> Result<(), Refusal>
+    ensures answer { result ≡ transform_answer (length text.now) (length output.old) (length working.old) }
+    ensures output { output.new ≡ (if is_ok result then transformed_bytes direction (F.function function.now) (hash_of hash) (tweak sector) text.now else output.old) }
     ensures working { working.new ≡ replicate (length working.old) 0 }
 {
     match hash {
-        1 => run(direction, f, &HornerHash, sector, text, output, working),
-        2 => run(direction, f, &BrwHash, sector, text, output, working),
-        _ => {
-            working.fill(0);
-            FIGURES
+        AnyHash::Horner => SectorCipher {
+            function,
+            hash: HornerHash,
+        }
+        .transform(direction, sector, text, output, working),
+        AnyHash::Brw => SectorCipher {
+            function,
+            hash: BrwHash,
+        }
+        .transform(direction, sector, text, output, working),
+    }
+}
+
+impl Method {
+    // The method of these numbers and this key.
+    fn numbered(cipher: u8, hash: u8, key: &[u8]) -> Result<Method, Refusal>
+        ensures { result ≡ method_of (cipher_numbered cipher) (hash_numbered hash) key.now }
+    {
+        Ok(Method {
+            cipher: Cipher::try_from(cipher).map_err(|_| Refusal::Figures)?,
+            hash: AnyHash::try_from(hash).map_err(|_| Refusal::Figures)?,
+            key: sixteen(key, Refusal::Figures)?,
+        })
+    }
+
+    // The transform by this method.
+    fn transform(
+        self,
+        direction: Direction,
+        sector: u64,
+        text: &[u8],
+        output: &mut [u8],
+        working: &mut [u8],
+    ) -> Result<(), Refusal>
+        ensures answer { result ≡ transform_answer (length text.now) (length output.old) (length working.old) }
+        ensures output { output.new ≡ (if is_ok result then transformed_bytes direction (cipher_of self.cipher self.key) (hash_of self.hash) (tweak sector) text.now else output.old) }
+        ensures working { working.new ≡ replicate (length working.old) 0 }
+    {
+        match self.cipher {
+            Cipher::Aes => by_hash(
+                &Aes128::new(self.key),
+                self.hash,
+                direction,
+                sector,
+                text,
+                output,
+                working,
+            ),
+            Cipher::Speck => by_hash(
+                &Speck128::new(self.key),
+                self.hash,
+                direction,
+                sector,
+                text,
+                output,
+                working,
+            ),
         }
     }
 }
 
-// The same with the block function by its number and its key.
-fn run_cipher(
+// The transform by numbers and a key, which leaves the stack uncovered.
+#[inline(never)]
+fn uncovered(
     direction: Direction,
     cipher: u8,
     hash: u8,
@@ -77,41 +109,25 @@ fn run_cipher(
     text: &[u8],
     output: &mut [u8],
     working: &mut [u8],
-) -> u8
-    ensures answer { result ≡ sector_answer cipher hash key.now text.now output.old working.old }
-    ensures output { output.new ≡ transformed_or result direction (cipher_of cipher key.now) (hash_of hash) sector text.now output.old }
+) -> Result<(), Refusal>
+    ensures answer { result ≡ sector_result cipher hash key.now text.now output.old working.old }
+    ensures output { output.new ≡ (if is_ok result then transformed_bytes direction (cipher_by_number cipher key.now) (hash_by_number hash) (tweak sector) text.now else output.old) }
     ensures working { working.new ≡ replicate (length working.old) 0 }
 {
-    match (cipher, sixteen(key)) {
-        (1, Some(key)) => run_hash(
-            direction,
-            &Aes128::new(key),
-            hash,
-            sector,
-            text,
-            output,
-            working,
-        ),
-        (2, Some(key)) => run_hash(
-            direction,
-            &Speck128::new(key),
-            hash,
-            sector,
-            text,
-            output,
-            working,
-        ),
-        _ => {
+    match Method::numbered(cipher, hash, key) {
+        Ok(method) => method.transform(direction, sector, text, output, working),
+        Err(refusal) => {
             working.fill(0);
-            FIGURES
+            Err(refusal)
         }
     }
 }
 
-// Enciphers the text of a sector: cipher 1 is AES-128 and 2 Speck128/128, hash 1 is the Horner hash and 2 the BRW hash.
-// Answers 0; 6 for another cipher or hash, or a key that is not 16 bytes long; else the number of the transform's
-// refusal. Refused, the output is as it was. The working bytes are zero afterwards, refused or not.
-pub fn kizdolur_encipher(
+// Enciphers or deciphers the text of a sector: cipher 1 is AES-128 and 2 Speck128/128, hash 1 is the Horner hash and 2 the BRW
+// hash. Refused: another cipher or hash, or a key that is not 16 bytes long; else what the transform refuses. Refused, the
+// output is as it was. The working bytes are zero afterwards, refused or not.
+pub fn transform_by(
+    direction: Direction,
     cipher: u8,
     hash: u8,
     key: &[u8],
@@ -119,47 +135,11 @@ pub fn kizdolur_encipher(
     text: &[u8],
     output: &mut [u8],
     working: &mut [u8],
-) -> u8
-    ensures answer { result ≡ sector_answer cipher hash key.now text.now output.old working.old }
-    ensures output { output.new ≡ transformed_or result Encipher (cipher_of cipher key.now) (hash_of hash) sector text.now output.old }
+) -> Result<(), Refusal>
+    ensures answer { result ≡ sector_result cipher hash key.now text.now output.old working.old }
+    ensures output { output.new ≡ (if is_ok result then transformed_bytes direction (cipher_by_number cipher key.now) (hash_by_number hash) (tweak sector) text.now else output.old) }
     ensures working { working.new ≡ replicate (length working.old) 0 }
 {
-    let answer = run_cipher(
-        Direction::Encipher,
-        cipher,
-        hash,
-        key,
-        sector,
-        text,
-        output,
-        working,
-    );
-    answer + cover_stack(answer)
-}
-
-// Deciphers the text of a sector, answered as `kizdolur_encipher` is.
-pub fn kizdolur_decipher(
-    cipher: u8,
-    hash: u8,
-    key: &[u8],
-    sector: u64,
-    text: &[u8],
-    output: &mut [u8],
-    working: &mut [u8],
-) -> u8
-    ensures answer { result ≡ sector_answer cipher hash key.now text.now output.old working.old }
-    ensures output { output.new ≡ transformed_or result Decipher (cipher_of cipher key.now) (hash_of hash) sector text.now output.old }
-    ensures working { working.new ≡ replicate (length working.old) 0 }
-{
-    let answer = run_cipher(
-        Direction::Decipher,
-        cipher,
-        hash,
-        key,
-        sector,
-        text,
-        output,
-        working,
-    );
-    answer + cover_stack(answer)
+    let answer = uncovered(direction, cipher, hash, key, sector, text, output, working);
+    covered(answer, answer_number(answer))
 }

@@ -1,7 +1,7 @@
 #![tactic(auto)]
 
-// The functions of `capi` as C calls them, by the same names and with the same clauses. A static library exports functions
-// of its own alone, so each one stands here once more and calls the one that does the work.
+// The functions for callers in C, on byte slices: each slice is a pointer and then a length (capi/include/kizdolur.h). Each
+// answers 0 or the number of a refusal.
 ghost use Rattle.std.specs.Prelude.{◌≡◌, length, replicate};
 ghost use Rattle.elements.specs.Values.{block_operations};
 ghost use Rattle.ciphers.specs.Aes.{aes_128};
@@ -10,7 +10,11 @@ ghost use Rattle.sector.specs.declared.text.Direction.TheVariants.{Encipher, Dec
 ghost use Rattle.capi.specs.Blocks.{block_in, product_answer, cipher_answer, given};
 ghost use Rattle.capi.specs.Sectors.{cipher_of, hash_of, sector_answer, transformed_or};
 
-use capi::{blocks, sectors};
+use capi::blocks::{block_by, block_product};
+use capi::sectors::transform_by;
+use ciphers::choice::Cipher;
+use sector::numbers::answer_number;
+use sector::text::Direction;
 
 // The product of two blocks. Answers 0, or 2 where one of the three is not 16 bytes long; `product` is then as it was.
 #[unsafe(no_mangle)]
@@ -18,7 +22,7 @@ pub extern "C" fn kizdolur_block_product(a: &[u8], b: &[u8], product: &mut [u8])
     ensures answer { result ≡ product_answer a.now b.now product.old }
     ensures output { product.new ≡ given result (block_operations.product (block_in a.now) (block_in b.now)) product.old }
 {
-    blocks::kizdolur_block_product(a, b, product)
+    answer_number(block_product(a, b, product))
 }
 
 // AES-128 of one block. Answers 0; 6 where the key is not 16 bytes long; or 2 where the block or the output is not.
@@ -28,7 +32,7 @@ pub extern "C" fn kizdolur_aes128_block(key: &[u8], plain: &[u8], output: &mut [
     ensures answer { result ≡ cipher_answer key.now plain.now output.old }
     ensures output { output.new ≡ given result (aes_128 key.now (block_in plain.now)) output.old }
 {
-    blocks::kizdolur_aes128_block(key, plain, output)
+    answer_number(block_by(Cipher::Aes, key, plain, output))
 }
 
 // Speck128/128 of one block, answered as AES-128 is.
@@ -37,7 +41,7 @@ pub extern "C" fn kizdolur_speck128_block(key: &[u8], plain: &[u8], output: &mut
     ensures answer { result ≡ cipher_answer key.now plain.now output.old }
     ensures output { output.new ≡ given result (speck key.now (block_in plain.now)) output.old }
 {
-    blocks::kizdolur_speck128_block(key, plain, output)
+    answer_number(block_by(Cipher::Speck, key, plain, output))
 }
 
 // Enciphers the text of a sector: cipher 1 is AES-128 and 2 Speck128/128, hash 1 is the Horner hash and 2 the BRW hash.
@@ -57,7 +61,16 @@ pub extern "C" fn kizdolur_encipher(
     ensures output { output.new ≡ transformed_or result Encipher (cipher_of cipher key.now) (hash_of hash) sector text.now output.old }
     ensures working { working.new ≡ replicate (length working.old) 0 }
 {
-    sectors::kizdolur_encipher(cipher, hash, key, sector, text, output, working)
+    answer_number(transform_by(
+        Direction::Encipher,
+        cipher,
+        hash,
+        key,
+        sector,
+        text,
+        output,
+        working,
+    ))
 }
 
 // Deciphers the text of a sector, answered as `kizdolur_encipher` is.
@@ -75,5 +88,14 @@ pub extern "C" fn kizdolur_decipher(
     ensures output { output.new ≡ transformed_or result Decipher (cipher_of cipher key.now) (hash_of hash) sector text.now output.old }
     ensures working { working.new ≡ replicate (length working.old) 0 }
 {
-    sectors::kizdolur_decipher(cipher, hash, key, sector, text, output, working)
+    answer_number(transform_by(
+        Direction::Decipher,
+        cipher,
+        hash,
+        key,
+        sector,
+        text,
+        output,
+        working,
+    ))
 }
