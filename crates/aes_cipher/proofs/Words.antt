@@ -63,7 +63,7 @@ abbrev pub Walked : (ℕ → Word → Word) → List Column → List Column → 
 Walked step old new k = record {
   long : length new ≡ 4;
   done : (c : ℕ) (d : Column) → c < k → (get_or new c d).bytes ≡ step c (get_or old c d).bytes;
-  left : (c : ℕ) (d : Column) → k ≤ c → get_or new c d ≡ get_or old c d
+  left : (c : ℕ) (d : Column) → k ≤ c → get_or new c d ≡ get_or old c d;
 }
 
 -- all are done

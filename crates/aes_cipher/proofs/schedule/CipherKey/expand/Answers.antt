@@ -18,8 +18,8 @@ loop-i-preserved g c =
     record {
       long = search rules;
       done =
-        expand_more key.words key.bytes.now c.loop-i.i ws (words_of c.put.new.rows) c.next-column.result.bytes
-        key.some h c.loop-i.invariant.done c.next-column.ensures c.put.ensures
+          expand_more key.words key.bytes.now c.loop-i.i ws (words_of c.put.new.rows) c.next-column.result.bytes
+          key.some h c.loop-i.invariant.done c.next-column.ensures c.put.ensures;
     }
 
 pub returns : goal.returns

@@ -6,5 +6,5 @@ use Rattle.aes_cipher.proofs.schedule.CipherKey.expand.Given as goal
 abbrev pub invariant-loop-i : goal.invariant-loop-i
 invariant-loop-i g l = record {
   long : length l.rows ≡ g.row.N;
-  done : take l.i (words_of l.rows) ≡ key_expansion l.self.words l.self.bytes.now l.i
+  done : take l.i (words_of l.rows) ≡ key_expansion l.self.words l.self.bytes.now l.i;
 }
