@@ -7,8 +7,8 @@ use Rattle.stores.specs.declared.fault.Fault.{Fault}
 use Rattle.stores.specs.Stores.{Store, refusal, outcome, state, filled, put}
 use Rattle.stores.specs.Layers.{Layer, stacked, reach, down, up}
 use Rattle.stacks.specs.declared.call.Answer.{Answer}
-use Rattle.stacks.specs.declared.call.Answer.TheVariants.{State}
-use Rattle.stacks.specs.Calls.{Ask, ask_count, ask_length, ask_layer, ask_state, ask_read, ask_write, noted}
+use Rattle.stacks.specs.declared.call.Answer.TheVariants.{Transfer, State}
+use Rattle.stacks.specs.Calls.{Ask, ask_count, ask_length, ask_layer, ask_state, ask_read, ask_write}
 use Rattle.stacks.specs.Law.{Takes, Last, Never, Shown, ReadAnswer, WriteAnswer, Right, landed, Moves, Holds}
 use Rattle.stacks.specs.Steps.{Octets}
 use Rattle.stacks.proofs.Nths.{none_some, nth_within, nth_push, nth_kept, nth_pushed}
@@ -108,7 +108,7 @@ module _ (ls : List Layer) (s : Store) where
     pub holds : ℕ → List ℕ
     pub is : u' ≡ holding s holds
     pub kept : Kept ls s holds (qs ++ q ∷ [])
-    pub right : Right (stacked ls s) qs q q' a
+    pub right : Right (stacked ls s) qs q q' (Some a)
     pub moves : Moves ls (stacked ls s) q (holding s f) u'
 
   pub holds_of : (f : ℕ → List ℕ) (qs : List Ask) → Kept ls s f qs → Holds ls s (holding s f) qs
@@ -138,28 +138,28 @@ module _ (ls : List Layer) (s : Store) where
     next ask_count q' a u' h m o = record {
       holds = f;
       is = m;
-      right = h;
+      right = (ap Some h.0, h.1);
       moves = m;
       kept = kept_other f qs ask_count k (λ n ys e _. let z : ◌≡◌ {A = ℕ} 0 1 = cc in omega arith);
     }
     next ask_length q' a u' h m o = record {
       holds = f;
       is = m;
-      right = h;
+      right = (ap Some h.0, h.1);
       moves = m;
       kept = kept_other f qs ask_length k (λ n ys e _. let z : ◌≡◌ {A = ℕ} 0 1 = cc in omega arith);
     }
     next ask_layer q' a u' h m o = record {
       holds = f;
       is = m;
-      right = h;
+      right = (ap Some h.0, h.1);
       moves = m;
       kept = kept_other f qs ask_layer k (λ n ys e _. let z : ◌≡◌ {A = ℕ} 0 1 = cc in omega arith);
     }
     next (ask_state j) q' a u' h m o = record {
       holds = f;
       is = m;
-      right = (h.0 ∙ ap (λ z. State z) (state_same f j), h.1);
+      right = (ap Some (h.0 ∙ ap (λ z. State z) (state_same f j)), h.1);
       moves = m;
       kept = kept_other f qs (ask_state j) k (λ n ys e _. let z : ◌≡◌ {A = ℕ} 0 1 = cc in omega arith);
     }
@@ -171,13 +171,13 @@ module _ (ls : List Layer) (s : Store) where
       kept = kept_other f qs (ask_read j xs) k (λ n ys e _. let z : ◌≡◌ {A = ℕ} 0 1 = cc in omega arith);
     }
       where
-        go : (v : Option Fault) → refusal (stacked ls s) j (length xs) ≡ v → ReadAnswer (stacked ls s) qs j xs (refusal (stacked ls s) j (length xs)) q' a
-        go None e = subst (λ (v : Option Fault). ReadAnswer (stacked ls s) qs j xs v q' a) (sym e) (
-          h.0 ∙ ap (λ v. noted (outcome v)) (refusal_same f j (length xs) ∙ e),
+        go : (v : Option Fault) → refusal (stacked ls s) j (length xs) ≡ v → ReadAnswer (stacked ls s) qs j xs (refusal (stacked ls s) j (length xs)) q' (Some a)
+        go None e = subst (λ (v : Option Fault). ReadAnswer (stacked ls s) qs j xs v q' (Some a)) (sym e) (
+          ap Some (h.0 ∙ ap (λ v. Transfer (outcome v)) (refusal_same f j (length xs) ∙ e)),
           (up ls j (f (reach ls j)), h.1 ∙ ap (λ v. ask_read j (filled v xs (up ls j (f (reach ls j))))) (refusal_same f j (length xs) ∙ e), shown f qs k long even j),
         )
-        go (Some g) e = subst (λ (v : Option Fault). ReadAnswer (stacked ls s) qs j xs v q' a) (sym e) (
-          h.0 ∙ ap (λ v. noted (outcome v)) (refusal_same f j (length xs) ∙ e),
+        go (Some g) e = subst (λ (v : Option Fault). ReadAnswer (stacked ls s) qs j xs v q' (Some a)) (sym e) (
+          ap Some (h.0 ∙ ap (λ v. Transfer (outcome v)) (refusal_same f j (length xs) ∙ e)),
           h.1 ∙ ap (λ v. ask_read j (filled v xs (up ls j (f (reach ls j))))) (refusal_same f j (length xs) ∙ e),
         )
     next (ask_write j xs) q' a u' h m o = go (refusal (stacked ls s) j (length xs)) refl
@@ -185,8 +185,8 @@ module _ (ls : List Layer) (s : Store) where
         moved : u' ≡ landed (refusal (stacked ls s) j (length xs)) ls (holding s f) j xs
         moved = m ∙ ap (λ v. landed v ls (holding s f) j xs) (refusal_same f j (length xs))
 
-        heard : a ≡ noted (outcome (refusal (stacked ls s) j (length xs)))
-        heard = h.0 ∙ ap (λ v. noted (outcome v)) (refusal_same f j (length xs))
+        heard : a ≡ Transfer (outcome (refusal (stacked ls s) j (length xs)))
+        heard = h.0 ∙ ap (λ v. Transfer (outcome v)) (refusal_same f j (length xs))
 
         go : (v : Option Fault) → refusal (stacked ls s) j (length xs) ≡ v → Next f qs (ask_write j xs) q' a u'
         go None e = record {
@@ -194,7 +194,7 @@ module _ (ls : List Layer) (s : Store) where
           is = moved ∙ ap (λ v. landed v ls (holding s f) j xs) e ∙ written_is f j xs;
           kept = kept_write f qs j xs k e o;
           moves = moved;
-          right = subst (λ (v : Option Fault). WriteAnswer j xs v q' a) (sym e) (heard ∙ ap (λ v. noted (outcome v)) e, h.1);
+          right = subst (λ (v : Option Fault). WriteAnswer j xs v q' (Some a)) (sym e) (ap Some (heard ∙ ap (λ v. Transfer (outcome v)) e), h.1);
         }
         go (Some g) e = record {
           holds = f;
@@ -204,5 +204,5 @@ module _ (ls : List Layer) (s : Store) where
               let same-ys : ys ≡ xs = cc in
               none_some g (sym acc ∙ ap (λ z. refusal (stacked ls s) z (length ys)) same-n ∙ ap (λ z. refusal (stacked ls s) j (length z)) same-ys ∙ e));
           moves = moved;
-          right = subst (λ (v : Option Fault). WriteAnswer j xs v q' a) (sym e) (heard ∙ ap (λ v. noted (outcome v)) e, h.1);
+          right = subst (λ (v : Option Fault). WriteAnswer j xs v q' (Some a)) (sym e) (ap Some (heard ∙ ap (λ v. Transfer (outcome v)) e), h.1);
         }

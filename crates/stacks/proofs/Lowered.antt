@@ -5,8 +5,8 @@ use Rattle.stores.specs.declared.fault.Fault.{Fault}
 use Rattle.stores.specs.Stores.{Store, refusal, outcome, state, filled, put}
 use Rattle.stores.specs.Layers.{Layer, Stack, Sound, stacked, store, reach, down, after_write}
 use Rattle.stacks.specs.declared.call.Answer.{Answer}
-use Rattle.stacks.specs.declared.call.Answer.TheVariants.{Number, State}
-use Rattle.stacks.specs.Calls.{Ask, ask_count, ask_length, ask_layer, ask_state, ask_read, ask_write, noted}
+use Rattle.stacks.specs.declared.call.Answer.TheVariants.{Transfer, Number, State}
+use Rattle.stacks.specs.Calls.{Ask, ask_count, ask_length, ask_layer, ask_state, ask_read, ask_write}
 use Rattle.stacks.specs.Laid.{laid}
 use Rattle.stacks.specs.Law.{Moves, landed}
 use Rattle.stacks.specs.Steps.{Step, Octets}
@@ -19,8 +19,8 @@ Heard s ask_count q' a = (a ≡ Number s.count) × (q' ≡ ask_count)
 Heard s ask_length q' a = (a ≡ Number s.size) × (q' ≡ ask_length)
 Heard s ask_layer q' a = (a ≡ Number s.layer) × (q' ≡ ask_layer)
 Heard s (ask_state n) q' a = (a ≡ State (state s n)) × (q' ≡ ask_state n)
-Heard s (ask_read n xs) q' a = (a ≡ noted (outcome (refusal s n (length xs)))) × (q' ≡ ask_read n (filled (refusal s n (length xs)) xs (s.bytes n)))
-Heard s (ask_write n xs) q' a = (a ≡ noted (outcome (refusal s n (length xs)))) × (q' ≡ ask_write n xs)
+Heard s (ask_read n xs) q' a = (a ≡ Transfer (outcome (refusal s n (length xs)))) × (q' ≡ ask_read n (filled (refusal s n (length xs)) xs (s.bytes n)))
+Heard s (ask_write n xs) q' a = (a ≡ Transfer (outcome (refusal s n (length xs)))) × (q' ≡ ask_write n xs)
 
 -- a call's step over the lowest store
 pub record Low (us us' : List Layer) (u u' : Store) (q q' : Ask) (a : Answer) : Type 0 where
@@ -77,7 +77,7 @@ module _ (us us' : List Layer) (b b' : Stack) (deep : length us' ≡ length us) 
     layers = same_layers b.lowest st.2;
     moves = lower b.lowest st.2;
     heard = (
-      st.0 ∙ ap (λ (z : Store). noted (outcome (refusal z n (length xs)))) whole,
+      st.0 ∙ ap (λ (z : Store). Transfer (outcome (refusal z n (length xs)))) whole,
       st.1 ∙ ap (λ (z : Store). ask_read n (filled (refusal z n (length xs)) xs (z.bytes n))) whole,
     );
   }
@@ -87,7 +87,7 @@ module _ (us us' : List Layer) (b b' : Stack) (deep : length us' ≡ length us) 
       same = ap (λ (z : Store). refusal z n (length xs)) whole
 
       heard : Heard (stacked us (store b)) (ask_write n xs) q' a
-      heard = (st.0 ∙ ap (λ v. noted (outcome v)) same, st.1)
+      heard = (st.0 ∙ ap (λ v. Transfer (outcome v)) same, st.1)
 
       go : (v : Option Fault) → refusal (stacked us (store b)) n (length xs) ≡ v → Low us us' (store b) (store b') (ask_write n xs) q' a
       go None e =

@@ -51,7 +51,7 @@ start ls s es = record {
 module _ (ls : List Layer) (s u u' : Store) (long : 64 ≤ s.size) (even : s.size % 16 ≡ 0) (es cur : List Entry) (i : ℕ) (t : Turn ls s u es cur i)
     (e : Entry) (c' : Call) (a : Answer) (at_i : slice_get cur i ≡ Some e) (h : Heard (stacked ls u) (ask e.call) (ask c') a) (m : Moves ls (stacked ls u) (ask e.call) u u') (o : Octets (ask e.call)) where
   new : Entry
-  new = record { call = c'; answer = a }
+  new = record { call = c'; answer = Some a }
 
   q : Ask
   q = ask e.call
@@ -116,7 +116,7 @@ module _ (ls : List Layer) (s u u' : Store) (long : 64 ≤ s.size) (even : s.siz
       (subst (λ (z : Entry). Right (stacked ls s) (asks (take i es)) (ask z.call) (ask d'.call) d'.answer) (sym de)
       (subst (λ (z : Entry). Right (stacked ls s) (asks (take i es)) (ask e.call) (ask z.call) z.answer) (sym dn) n.right))
 
-  pub turn : Turn ls s u' es (set cur i (record { call = c'; answer = a })) (i + 1)
+  pub turn : Turn ls s u' es (set cur i (record { call = c'; answer = Some a })) (i + 1)
   unfolding new
   turn = record {
     holds = n.holds;
@@ -139,7 +139,7 @@ module _ (ls : List Layer) (s u u' : Store) (long : 64 ≤ s.size) (even : s.siz
 pub turn_on : (us₀ us us' : List Layer) (b₀ b b' p p' : Stack) (es cur : List Entry) (i : ℕ) (e : Entry) (c' : Call) (a : Answer)
     → Sound b₀.lowest → Sound b.lowest → p ≡ laid us b → p' ≡ laid us' b' → length us' ≡ length us
     → us ≡ us₀ → Turn us₀ (store b₀) (store b) es cur i → slice_get cur i ≡ Some e → Step p p' (ask e.call) (ask c') a → Octets (ask e.call)
-    → (us' ≡ us₀) × Turn us₀ (store b₀) (store b') es (set cur i (record { call = c'; answer = a })) (i + 1)
+    → (us' ≡ us₀) × Turn us₀ (store b₀) (store b') es (set cur i (record { call = c'; answer = Some a })) (i + 1)
 turn_on us₀ us us' b₀ b b' p p' es cur i e c' a sound₀ sound stands stands' deep same t at_i st o =
     let st₁ : Step (laid us b) p' (ask e.call) (ask c') a = subst (λ (z : Stack). Step z p' (ask e.call) (ask c') a) stands st in
     let st₂ : Step (laid us b) (laid us' b') (ask e.call) (ask c') a = subst (λ (z : Stack). Step (laid us b) z (ask e.call) (ask c') a) stands' st₁ in

@@ -1,10 +1,7 @@
 -- Calls and answers. Assumes nothing.
-use Rattle.std.specs.Prelude.{ℕ, List, map, Ok, Err, vec_items, Result}
-use Rattle.stores.specs.declared.fault.Fault.{Fault}
+use Rattle.std.specs.Prelude.{ℕ, List, map, vec_items}
 use Rattle.stacks.specs.declared.call.Call.{Call}
 use Rattle.stacks.specs.declared.call.Call.TheVariants.{Count, Length, Layer, State, Read, Write}
-use Rattle.stacks.specs.declared.call.Answer.{Answer}
-use Rattle.stacks.specs.declared.call.Answer.TheVariants.{Done, Refused}
 use Rattle.stacks.specs.declared.call.Entry.{Entry}
 
 -- a call, by its sector and the bytes that its buffer holds
@@ -28,8 +25,3 @@ ask (Write n v) = ask_write n (vec_items v)
 -- the calls of a list
 abbrev pub asks : List Entry → List Ask
 asks es = map (λ e. ask e.call) es
-
--- the answer of a read or a write
-abbrev pub noted : Result (Unit {0}) Fault → Answer
-noted (Ok u) = Done
-noted (Err f) = Refused f

@@ -1,12 +1,12 @@
 -- The law over runs: what a list of calls, put to a stack in turn, comes to. It speaks of the calls, of the writes
 -- accepted among them, and of what a text becomes below; not of how the calls are carried out. Assumes nothing.
-use Rattle.std.specs.Prelude.{◌≡◌, ℕ, suc, ◌<◌, ◌≤◌, List, length, take, Some, None, Option}
+use Rattle.std.specs.Prelude.{◌≡◌, ℕ, suc, ◌<◌, ◌≤◌, List, length, take, Some, None, Ok, Err, Option}
 use Rattle.std.specs.List.{slice_get}
 use Rattle.stores.specs.declared.fault.Fault.{Fault}
 use Rattle.stores.specs.Stores.{Store, refusal, state, put}
 use Rattle.stores.specs.Layers.{Layer, stacked, reach, down}
 use Rattle.stacks.specs.declared.call.Answer.{Answer}
-use Rattle.stacks.specs.declared.call.Answer.TheVariants.{Done, Refused, Number, State}
+use Rattle.stacks.specs.declared.call.Answer.TheVariants.{Transfer, Number, State}
 use Rattle.stacks.specs.declared.call.Entry.{Entry}
 use Rattle.stacks.specs.Calls.{Ask, ask, asks, ask_count, ask_length, ask_layer, ask_state, ask_read, ask_write}
 
@@ -31,22 +31,22 @@ pub record Shown (s : Store) (before : List Ask) (n : ℕ) (ys : List ℕ) : Typ
   pub first : Never s before n → ys ≡ s.bytes n
 
 -- a read of sector n with the buffer xs, by the fault that it draws: refused, its buffer keeps xs; accepted, it is filled
-abbrev pub ReadAnswer : Store → List Ask → ℕ → List ℕ → Option Fault → Ask → Answer → Type 0
-ReadAnswer s before n xs (Some f) q' a = (a ≡ Refused f) × (q' ≡ ask_read n xs)
-ReadAnswer s before n xs None q' a = (a ≡ Done) × ((ys : List ℕ) × (q' ≡ ask_read n ys) × Shown s before n ys)
+abbrev pub ReadAnswer : Store → List Ask → ℕ → List ℕ → Option Fault → Ask → Option Answer → Type 0
+ReadAnswer s before n xs (Some f) q' a = (a ≡ Some (Transfer (Err f))) × (q' ≡ ask_read n xs)
+ReadAnswer s before n xs None q' a = (a ≡ Some (Transfer (Ok tt))) × ((ys : List ℕ) × (q' ≡ ask_read n ys) × Shown s before n ys)
 
 -- a write, by the fault that it draws: its buffer keeps its bytes
-abbrev pub WriteAnswer : ℕ → List ℕ → Option Fault → Ask → Answer → Type 0
-WriteAnswer n xs (Some f) q' a = (a ≡ Refused f) × (q' ≡ ask_write n xs)
-WriteAnswer n xs None q' a = (a ≡ Done) × (q' ≡ ask_write n xs)
+abbrev pub WriteAnswer : ℕ → List ℕ → Option Fault → Ask → Option Answer → Type 0
+WriteAnswer n xs (Some f) q' a = (a ≡ Some (Transfer (Err f))) × (q' ≡ ask_write n xs)
+WriteAnswer n xs None q' a = (a ≡ Some (Transfer (Ok tt))) × (q' ≡ ask_write n xs)
 
 -- the answer a to the call q, put after the calls `before` to a stack that was the store s at the making; q' has what the
 -- call's buffer then holds
-abbrev pub Right : Store → List Ask → Ask → Ask → Answer → Type 0
-Right s before ask_count q' a = (a ≡ Number s.count) × (q' ≡ ask_count)
-Right s before ask_length q' a = (a ≡ Number s.size) × (q' ≡ ask_length)
-Right s before ask_layer q' a = (a ≡ Number s.layer) × (q' ≡ ask_layer)
-Right s before (ask_state n) q' a = (a ≡ State (state s n)) × (q' ≡ ask_state n)
+abbrev pub Right : Store → List Ask → Ask → Ask → Option Answer → Type 0
+Right s before ask_count q' a = (a ≡ Some (Number s.count)) × (q' ≡ ask_count)
+Right s before ask_length q' a = (a ≡ Some (Number s.size)) × (q' ≡ ask_length)
+Right s before ask_layer q' a = (a ≡ Some (Number s.layer)) × (q' ≡ ask_layer)
+Right s before (ask_state n) q' a = (a ≡ Some (State (state s n))) × (q' ≡ ask_state n)
 Right s before (ask_read n xs) q' a = ReadAnswer s before n xs (refusal s n (length xs)) q' a
 Right s before (ask_write n xs) q' a = WriteAnswer n xs (refusal s n (length xs)) q' a
 

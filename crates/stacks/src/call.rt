@@ -13,20 +13,17 @@ pub enum Call {
 }
 
 // What a call was answered.
-#[derive(Clone, Copy)]
+#[derive(Clone, Copy, Debug, PartialEq, Eq)]
 pub enum Answer {
-    // not put yet
-    Waiting,
-    // an accepted read or write
-    Done,
-    Refused(Fault),
+    // of a read or a write
+    Transfer(Result<(), Fault>),
     Number(u64),
     State(SectorState),
 }
 
-// A call and its answer.
+// A call and its answer, once it is put.
 #[derive(Drop)]
 pub struct Entry {
     pub call: Call,
-    pub answer: Answer,
+    pub answer: Option<Answer>,
 }

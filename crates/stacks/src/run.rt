@@ -1,30 +1,20 @@
 ghost use Rattle.std.specs.Prelude.{◌≡◌};
 ghost use Rattle.std.specs.Int.Digits.{AllBelowBase};
 ghost use Rattle.stores.specs.Layers.{store};
-ghost use Rattle.stacks.specs.Calls.{ask, ask_write, noted};
+ghost use Rattle.stacks.specs.Calls.{ask, ask_write};
 ghost use Rattle.stacks.specs.Steps.{Step, Octets};
 ghost use Rattle.stacks.specs.Law.{Law};
 
 use crate::call::{Answer, Call, Entry};
 use crate::stack::StackOn;
-use stores::fault::Fault;
 use stores::store::SectorStore;
-
-fn told(r: Result<(), Fault>) -> Answer
-    ensures { result ≡ noted r }
-{
-    match r {
-        Ok(()) => Answer::Done,
-        Err(fault) => Answer::Refused(fault),
-    }
-}
 
 // Puts one write. A slice's elements are known to be bytes.
 fn put_write<P: SectorStore>(stack: &mut P, n: u64, buffer: &[u8]) -> Answer
     ensures step { Step (P.view stack.old) (P.view stack.new) (ask_write n buffer.now) (ask_write n buffer.now) result }
     ensures octets { AllBelowBase 256 buffer.now }
 {
-    told(stack.write(n, buffer))
+    Answer::Transfer(stack.write(n, buffer))
 }
 
 // Puts one call.
@@ -37,7 +27,7 @@ fn put<P: SectorStore>(stack: &mut P, call: &mut Call) -> Answer
         Call::Length => Answer::Number(stack.length() as u64),
         Call::Layer => Answer::Number(u64::from(stack.layer())),
         Call::State(n) => Answer::State(stack.state(*n)),
-        Call::Read(n, buffer) => told(stack.read(*n, buffer.as_mut_slice())),
+        Call::Read(n, buffer) => Answer::Transfer(stack.read(*n, buffer.as_mut_slice())),
         Call::Write(n, buffer) => put_write(stack, *n, buffer.as_slice()),
     }
 }
@@ -49,6 +39,6 @@ pub fn run<B: SectorStore, N, P: StackOn<B, N>>(stack: &mut P, list: &mut [Entry
         list.old list.new }
 {
     for e in list.iter_mut() {
-        e.answer = put(stack, &mut e.call);
+        e.answer = Some(put(stack, &mut e.call));
     }
 }

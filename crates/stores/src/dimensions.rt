@@ -1,5 +1,5 @@
 // The numbers of a store.
-#[derive(Clone, Copy)]
+#[derive(Clone, Copy, Debug, PartialEq, Eq)]
 pub struct Dimensions {
     pub count: u64,
     pub length: usize,

@@ -1,5 +1,5 @@
 // What a store answers of a sector.
-#[derive(Clone, Copy)]
+#[derive(Clone, Copy, Debug, PartialEq, Eq)]
 pub enum SectorState {
     Ready,
     // the sector is not below the count
