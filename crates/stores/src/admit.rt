@@ -1,5 +1,5 @@
 ghost use Rattle.std.specs.Prelude.{◌≡◌};
-ghost use Rattle.stores.specs.Stores.{misfit, outcome};
+ghost use Rattle.stores.specs.Stores.{fault as fault_by, misfit, outcome};
 
 use crate::dimensions::Dimensions;
 use crate::fault::Fault;
@@ -10,17 +10,23 @@ impl Dimensions {
     pub fn admit(self, n: u64, len: usize) -> Result<(), Fault>
         ensures { result ≡ outcome (misfit self n len) }
     {
-        let refusal = if len != self.length {
-            Refusal::BufferLength
-        } else if n >= self.count {
-            Refusal::SectorNumber
-        } else {
-            return Ok(());
-        };
-        Err(Fault {
+        if len != self.length {
+            return Err(self.fault(Refusal::BufferLength, n));
+        }
+        if n >= self.count {
+            return Err(self.fault(Refusal::SectorNumber, n));
+        }
+        Ok(())
+    }
+
+    // A fault that arises in the store itself.
+    fn fault(self, refusal: Refusal, sector: u64) -> Fault
+        ensures { result ≡ fault_by refusal sector self.layer }
+    {
+        Fault {
             refusal,
-            sector: n,
+            sector,
             layer: self.layer,
-        })
+        }
     }
 }
