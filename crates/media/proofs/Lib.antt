@@ -1,3 +1,3 @@
-pub mod Lying
-pub mod Spares
-pub mod Sparing
+pub mod Failing
+pub mod Listing
+pub mod Placing

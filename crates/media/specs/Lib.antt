@@ -1,3 +1,5 @@
 pub mod Media
 pub mod Spared
 pub mod Limits
+pub mod Places
+pub mod Sparing

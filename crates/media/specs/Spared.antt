@@ -1,17 +1,14 @@
 -- A medium with spare places and a list of bad sectors. Assumes nothing.
-use Rattle.std.specs.Prelude.{◌≡◌, ℕ, suc, ◌+◌, ◌*◌, ◌<◌, Bool, true, cond, not, ◌&&◌, List, [], ◌∷◌, length, is_some, Some, None, Option, ◌==◌, ◌≢◌, nat_le, nat_lt, slice_index}
-use Rattle.stores.specs.Stores.{Store, Place}
+use Rattle.std.specs.Prelude.{◌≡◌, ℕ, ◌+◌, ◌*◌, ◌<◌, Bool, true, cond, not, ◌&&◌, List, [], ◌∷◌, length, is_some, Some, None, Option, Ok, Err, Result, ◌==◌, ◌≢◌, nat_le, nat_lt, slice_index}
+use Rattle.std.specs.List.{position as position_by}
+use Rattle.sector.specs.declared.refusal.Refusal.TheVariants.{SectorFailed}
+use Rattle.stores.specs.declared.fault.Fault.{Fault}
+use Rattle.stores.specs.Stores.{Store, Place, fault}
 use Rattle.media.specs.Media.{place, within_limits}
-
--- a position, counted from one entry further ahead
-abbrev pub later : Option ℕ → Option ℕ
-later None = None
-later (Some i) = Some (suc i)
 
 -- the position of a sector in the list of bad sectors
 abbrev pub position : List ℕ → ℕ → Option ℕ
-position [] k = None
-position (x ∷ xs) k = cond (x == k) (Some 0) (later (position xs k))
+position bad k = position_by (λ x. x == k) bad
 
 -- the spare place of the bad sector at a position, over n sectors: the spares follow the sectors' own places
 abbrev pub spare_place : ℕ → Option ℕ → Option ℕ
@@ -38,13 +35,17 @@ lost k (Some p) = None
 abbrev pub home : ℕ → ℕ → List ℕ → ℕ → ℕ
 home n spares bad k = own_or k (lies (n + spares) k (spare_place n (position bad k)))
 
+-- the bytes of sector k
+abbrev pub sector_bytes : List ℕ → ℕ → ℕ → ℕ → List ℕ → ℕ → List ℕ
+sector_bytes all n size spares bad k = cond (nat_lt k n) (place all size (home n spares bad k)) []
+
 -- n sectors with spares, by the list of bad sectors
 abbrev pub spared_store : List ℕ → ℕ → ℕ → ℕ → List ℕ → Store
 spared_store all n size spares bad = record {
   count = n;
   size = size;
   layer = 0;
-  bytes = λ k. cond (nat_lt k n) (place all size (own_or k (lies (n + spares) k (spare_place n (position bad k))))) [];
+  bytes = sector_bytes all n size spares bad;
   failed = λ k. lost k (lies (n + spares) k (spare_place n (position bad k)));
 }
 
@@ -67,3 +68,12 @@ pub record Failures (s : Store) (fs : List ℕ) : Type 0 where
   pub each : (i : ℕ) → i < length fs → is_some (s.failed (slice_index fs i)) ≡ true
   pub all : (n : ℕ) → is_some (s.failed n) ≡ true → (i : ℕ) × (i < length fs) × (slice_index fs i ≡ n)
   pub apart : (i j : ℕ) → i < j → j < length fs → slice_index fs i ≢ slice_index fs j
+
+-- n sectors of this length, by the bytes of each and by the place in which each lies
+abbrev pub laid_out : ℕ → ℕ → (ℕ → List ℕ) → (ℕ → Option ℕ) → Store
+laid_out n size bytes lies = record { count = n; size = size; layer = 0; bytes = bytes; failed = λ k. lost k (lies k) }
+
+-- where sector k lies, by its place, or the fault of a failed sector
+abbrev pub placed : ℕ → Option ℕ → Result ℕ Fault
+placed k None = Err (fault SectorFailed k 0)
+placed k (Some p) = Ok p

@@ -1,6 +1,9 @@
 #![tactic(auto)]
 
 pub mod flat;
+mod layout;
+mod limits;
 mod lookup;
+mod medium;
 mod places;
 pub mod spared;

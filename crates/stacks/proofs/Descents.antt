@@ -1,14 +1,13 @@
 -- Down a stack of layers and up again. Assumes nothing.
 use Rattle.std.proofs.Common.{◌≡◌, ℕ, ◌+◌, ◌%◌, ◌≤◌, min, cond, eqb, leb, List, [], ◌∷◌, ◌++◌, length, None, sym, refl, ap, ◌∙◌, ⊎_elim, arith}
 use Rattle.std.proofs.lemmas.Bool.{cases_eq, cond-true, cond-false, eq-eqb, ne_eqb}
+use Rattle.std.proofs.lemmas.Bool.Decides.{nat_tests}
 use Rattle.sector.specs.Texts.{enciphered_bytes, deciphered_bytes}
 use Rattle.sector.specs.Transform.{tweak}
 use Rattle.sector.proofs.Bytes.{inverse}
 use Rattle.stores.specs.Stores.{Store, put}
 use Rattle.stores.specs.Layers.{Layer, enciphering, window, stacked, reach, down, up, count_of, layer_of}
 use Rattle.stores.specs.Stores.{refusal}
-use Rattle.stores.proofs.Answered.{refusal_length}
-use Rattle.stacks.proofs.Nths.{none_some}
 use Rattle.stacks.proofs.Sectors.{Sector, enciphered_sector}
 
 pub reach_inj : (ls : List Layer) (m n : ℕ) → reach ls m ≡ reach ls n → m ≡ n
@@ -92,4 +91,5 @@ stacked_append us bs s = λ i. record {
 
 -- what is accepted is as long as a sector
 pub accepted_length : (s : Store) (n len : ℕ) → refusal s n len ≡ None → len ≡ s.size
-accepted_length s n len e = ⊎_elim (λ h. h) (λ h. absurd (none_some _ (sym e ∙ refusal_length s n len h))) (cases_eq len s.size)
+unfolding refusal
+accepted_length s n len e = grind (arith, nat_tests)

@@ -7,14 +7,13 @@ use Rattle.stores.specs.Layers.{stacked}
 use Rattle.stacks.specs.Calls.{Ask, ask, asks, ask_count, ask_length, ask_layer, ask_state, ask_read, ask_write}
 use Rattle.stacks.specs.Consequences.{Echo, Decided}
 use Rattle.stacks.specs.Law.{Last, Never, Takes, Right, ReadAnswer}
-use Rattle.stacks.proofs.Nths.{none_some, some_same}
 
 alone_last : (s : Store) (q : Ask) (n : ℕ) (xs : List ℕ) → q ≡ ask_write n xs → refusal s n (length xs) ≡ None → Last s (q ∷ []) n xs
 alone_last s q n xs e acc = record { at = 0; takes = (ap Some e, acc); none_later = none }
   where
     none : (k : ℕ) (ys : List ℕ) → 0 < k → Takes s (q ∷ []) k n ys → ⊥
     none zero ys h t = omega arith
-    none (suc k) ys h t = none_some (ask_write n ys) t.0
+    none (suc k) ys h t = cc
 
 pub echo : Echo
 echo ls ls' low low' a b a' b' n xs ys law ea eb acc same =
@@ -39,23 +38,23 @@ module _ (s : Store) (n : ℕ) where
       none (suc k) ys h t = never k ys t
 
   no_first : (q : Ask) (qs : List Ask) → ((ys : List ℕ) → q ≡ ask_write n ys → refusal s n (length ys) ≡ None → ⊥) → Never s qs n → Never s (q ∷ qs) n
-  no_first q qs h never zero ys t = h ys (some_same q (ask_write n ys) t.0) t.1
+  no_first q qs h never zero ys t = h ys ((cc)) t.1
   no_first q qs h never (suc k) ys t = never k ys t
 
   first : (q : Ask) (qs : List Ask) → Never s qs n → ((xs : List ℕ) × Last s (q ∷ qs) n xs) ⊎ Never s (q ∷ qs) n
-  first ask_count qs never = inr (no_first ask_count qs (λ ys e a. let z : ◌≡◌ {A = ℕ} 0 1 = cc in omega arith) never)
-  first ask_length qs never = inr (no_first ask_length qs (λ ys e a. let z : ◌≡◌ {A = ℕ} 0 1 = cc in omega arith) never)
-  first ask_layer qs never = inr (no_first ask_layer qs (λ ys e a. let z : ◌≡◌ {A = ℕ} 0 1 = cc in omega arith) never)
-  first (ask_state m) qs never = inr (no_first (ask_state m) qs (λ ys e a. let z : ◌≡◌ {A = ℕ} 0 1 = cc in omega arith) never)
-  first (ask_read m xs) qs never = inr (no_first (ask_read m xs) qs (λ ys e a. let z : ◌≡◌ {A = ℕ} 0 1 = cc in omega arith) never)
+  first ask_count qs never = inr (no_first ask_count qs (λ ys e a. cc) never)
+  first ask_length qs never = inr (no_first ask_length qs (λ ys e a. cc) never)
+  first ask_layer qs never = inr (no_first ask_layer qs (λ ys e a. cc) never)
+  first (ask_state m) qs never = inr (no_first (ask_state m) qs (λ ys e a. cc) never)
+  first (ask_read m xs) qs never = inr (no_first (ask_read m xs) qs (λ ys e a. cc) never)
   first (ask_write m xs) qs never = ⊎_elim (λ e. go e (refusal s n (length xs)) refl) (λ ne. inr (no_first (ask_write m xs) qs (λ ys e a. let same : m ≡ n = cc in ne same) never)) (cases_eq m n)
     where
       go : m ≡ n → (v : Option Fault) → refusal s n (length xs) ≡ v → ((ys : List ℕ) × Last s (ask_write m xs ∷ qs) n ys) ⊎ Never s (ask_write m xs ∷ qs) n
       go e None acc = inl (xs, first_last (ask_write m xs) qs xs (ap (λ z. ask_write z xs) e) acc never)
-      go e (Some f) ref = inr (no_first (ask_write m xs) qs (λ ys w a. let same : ys ≡ xs = cc in none_some f (sym a ∙ ap (λ z. refusal s n (length z)) same ∙ ref)) never)
+      go e (Some f) ref = inr (no_first (ask_write m xs) qs (λ ys w a. let same : ys ≡ xs = cc in cc (sym a ∙ ap (λ z. refusal s n (length z)) same ∙ ref)) never)
 
   pub last_or_never : (qs : List Ask) → ((xs : List ℕ) × Last s qs n xs) ⊎ Never s qs n
-  last_or_never [] = inr (λ k ys t. none_some (ask_write n ys) t.0)
+  last_or_never [] = inr (λ k ys t. cc)
   last_or_never (q ∷ qs) = ⊎_elim (λ l. inl (l.0, later_last q qs l.0 l.1)) (λ never. first q qs never) (last_or_never qs)
 
 pub decided : Decided

@@ -1,8 +1,9 @@
 -- The writes accepted in a list of calls, and what the lowest store holds after them. Assumes nothing.
-use Rattle.std.proofs.Common.{◌≡◌, ℕ, ◌%◌, ◌≤◌, cond, eqb, ◌⊎◌, List, [], ◌∷◌, ◌++◌, length, Some, None, Option, sym, refl, ap, ◌∙◌, subst, inl, inr, ⊎_elim, arith}
+use Rattle.std.proofs.Common.{◌≡◌, ℕ, ◌%◌, ◌≤◌, cond, eqb, ◌⊎◌, List, [], ◌∷◌, ◌++◌, length, Some, None, Option, sym, refl, ap, ◌∙◌, subst, inl, inr, ⊎_elim}
 use Rattle.std.specs.Int.Digits.{AllBelowBase}
 use Rattle.std.specs.List.{slice_get}
 use Rattle.std.proofs.lemmas.Bool.{eq-eqb, ne_eqb, cases_eq, cond-true, cond-false}
+use Rattle.std.proofs.lemmas.Option.{slice_get_within}
 use Rattle.stores.specs.declared.fault.Fault.{Fault}
 use Rattle.stores.specs.Stores.{Store, refusal, outcome, state, filled, put}
 use Rattle.stores.specs.Layers.{Layer, stacked, reach, down, up}
@@ -11,7 +12,7 @@ use Rattle.stacks.specs.declared.call.Answer.TheVariants.{Transfer, State}
 use Rattle.stacks.specs.Calls.{Ask, ask_count, ask_length, ask_layer, ask_state, ask_read, ask_write}
 use Rattle.stacks.specs.Law.{Takes, Last, Never, Shown, ReadAnswer, WriteAnswer, Right, landed, Moves, Holds}
 use Rattle.stacks.specs.Steps.{Octets}
-use Rattle.stacks.proofs.Nths.{none_some, nth_within, nth_push, nth_kept, nth_pushed}
+use Rattle.stacks.proofs.Nths.{nth_push, nth_kept, nth_pushed}
 use Rattle.stacks.proofs.Descents.{reach_inj, up_down, accepted_length}
 use Rattle.stacks.proofs.Lowered.{Heard}
 
@@ -39,7 +40,7 @@ module _ (s : Store) (qs : List Ask) where
   last_cases m ys acc n xs l =
       ⊎_elim
       (λ e. ⊎_elim
-      (λ old. absurd (l.none_later (length qs) ys (nth_within qs l.at _ old) (subst (λ z. Takes s (qs ++ ask_write m ys ∷ []) (length qs) z ys) (sym e) (nth_pushed qs (ask_write m ys), acc))))
+      (λ old. absurd (l.none_later (length qs) ys (slice_get_within qs l.at _ old) (subst (λ z. Takes s (qs ++ ask_write m ys ∷ []) (length qs) z ys) (sym e) (nth_pushed qs (ask_write m ys), acc))))
       (λ new. let w : ask_write m ys ≡ ask_write n xs = new.1 in let same : xs ≡ ys = cc in inl (e, same))
       found)
       (λ ne. ⊎_elim
@@ -64,8 +65,8 @@ pub record Kept (ls : List Layer) (s : Store) (f : ℕ → List ℕ) (qs : List 
 module _ (ls : List Layer) (s : Store) where
   pub kept_none : Kept ls s s.bytes []
   kept_none = record {
-    written = λ n xs l. absurd (none_some _ l.takes.0);
-    octets = λ n xs l. absurd (none_some _ l.takes.0);
+    written = λ n xs l. cc l.takes.0;
+    octets = λ n xs l. cc l.takes.0;
     others = λ m h. refl;
   }
 
@@ -140,35 +141,35 @@ module _ (ls : List Layer) (s : Store) where
       is = m;
       right = (ap Some h.0, h.1);
       moves = m;
-      kept = kept_other f qs ask_count k (λ n ys e _. let z : ◌≡◌ {A = ℕ} 0 1 = cc in omega arith);
+      kept = kept_other f qs ask_count k (λ n ys e _. cc);
     }
     next ask_length q' a u' h m o = record {
       holds = f;
       is = m;
       right = (ap Some h.0, h.1);
       moves = m;
-      kept = kept_other f qs ask_length k (λ n ys e _. let z : ◌≡◌ {A = ℕ} 0 1 = cc in omega arith);
+      kept = kept_other f qs ask_length k (λ n ys e _. cc);
     }
     next ask_layer q' a u' h m o = record {
       holds = f;
       is = m;
       right = (ap Some h.0, h.1);
       moves = m;
-      kept = kept_other f qs ask_layer k (λ n ys e _. let z : ◌≡◌ {A = ℕ} 0 1 = cc in omega arith);
+      kept = kept_other f qs ask_layer k (λ n ys e _. cc);
     }
     next (ask_state j) q' a u' h m o = record {
       holds = f;
       is = m;
       right = (ap Some (h.0 ∙ ap (λ z. State z) (state_same f j)), h.1);
       moves = m;
-      kept = kept_other f qs (ask_state j) k (λ n ys e _. let z : ◌≡◌ {A = ℕ} 0 1 = cc in omega arith);
+      kept = kept_other f qs (ask_state j) k (λ n ys e _. cc);
     }
     next (ask_read j xs) q' a u' h m o = record {
       holds = f;
       is = m;
       moves = m;
       right = go (refusal (stacked ls s) j (length xs)) refl;
-      kept = kept_other f qs (ask_read j xs) k (λ n ys e _. let z : ◌≡◌ {A = ℕ} 0 1 = cc in omega arith);
+      kept = kept_other f qs (ask_read j xs) k (λ n ys e _. cc);
     }
       where
         go : (v : Option Fault) → refusal (stacked ls s) j (length xs) ≡ v → ReadAnswer (stacked ls s) qs j xs (refusal (stacked ls s) j (length xs)) q' (Some a)
@@ -202,7 +203,7 @@ module _ (ls : List Layer) (s : Store) where
           kept = kept_other f qs (ask_write j xs) k (λ n ys w acc.
               let same-n : n ≡ j = cc in
               let same-ys : ys ≡ xs = cc in
-              none_some g (sym acc ∙ ap (λ z. refusal (stacked ls s) z (length ys)) same-n ∙ ap (λ z. refusal (stacked ls s) j (length z)) same-ys ∙ e));
+              cc (sym acc ∙ ap (λ z. refusal (stacked ls s) z (length ys)) same-n ∙ ap (λ z. refusal (stacked ls s) j (length z)) same-ys ∙ e));
           moves = moved;
           right = subst (λ (v : Option Fault). WriteAnswer j xs v q' (Some a)) (sym e) (ap Some (heard ∙ ap (λ v. Transfer (outcome v)) e), h.1);
         }

@@ -1,27 +1,16 @@
 -- What stands at a place of a list. Assumes nothing.
-use Rattle.std.proofs.Common.{◌≡◌, ℕ, zero, suc, ◌<◌, ◌⊎◌, List, [], ◌∷◌, ◌++◌, map, length, take, set, Some, None, refl, ap, inl, inr, ⊎_elim, arith}
+use Rattle.std.proofs.Common.{◌≡◌, ℕ, zero, suc, ◌<◌, ◌⊎◌, List, [], ◌∷◌, ◌++◌, map, length, take, set, Some, refl, ap, inl, inr, ⊎_elim, arith}
 use Rattle.std.specs.List.{slice_get}
 
 module _ {X : Type 0} where
-  pub none_some : (x : X) → None ≡ Some x → ⊥
-  none_some x e = let z : ◌≡◌ {A = ℕ} 0 1 = cc in omega arith
-
-  pub some_same : (x y : X) → Some x ≡ Some y → x ≡ y
-  some_same x y e = cc
-
-  pub nth_within : (xs : List X) (k : ℕ) (a : X) → slice_get xs k ≡ Some a → k < length xs
-  nth_within [] k a e = absurd (none_some a e)
-  nth_within (x ∷ xs) zero a e = omega arith
-  nth_within (x ∷ xs) (suc k) a e = omega (arith, nth_within xs k a e)
-
   pub nth_push : (xs : List X) (x : X) (k : ℕ) (a : X) → slice_get (xs ++ x ∷ []) k ≡ Some a → (slice_get xs k ≡ Some a) ⊎ ((k ≡ length xs) × (x ≡ a))
-  nth_push [] x zero a e = inr (refl, some_same x a e)
-  nth_push [] x (suc k) a e = absurd (none_some a e)
+  nth_push [] x zero a e = inr (refl, cc)
+  nth_push [] x (suc k) a e = cc
   nth_push (y ∷ xs) x zero a e = inl e
   nth_push (y ∷ xs) x (suc k) a e = ⊎_elim inl (λ h. inr (ap suc h.0, h.1)) (nth_push xs x k a e)
 
   pub nth_kept : (xs : List X) (x : X) (k : ℕ) (a : X) → slice_get xs k ≡ Some a → slice_get (xs ++ x ∷ []) k ≡ Some a
-  nth_kept [] x k a e = absurd (none_some a e)
+  nth_kept [] x k a e = cc
   nth_kept (y ∷ xs) x zero a e = e
   nth_kept (y ∷ xs) x (suc k) a e = nth_kept xs x k a e
 
@@ -42,8 +31,8 @@ module _ {X : Type 0} where
   nth_set_same (y ∷ xs) (suc i) x h = nth_set_same xs i x (omega arith)
 
   pub take_nth : (xs : List X) (i : ℕ) (x : X) → slice_get xs i ≡ Some x → take (suc i) xs ≡ take i xs ++ x ∷ []
-  take_nth [] i x e = absurd (none_some x e)
-  take_nth (y ∷ xs) zero x e = ap (λ z. z ∷ []) (some_same y x e)
+  take_nth [] i x e = cc
+  take_nth (y ∷ xs) zero x e = ap (λ z. z ∷ []) (cc)
   take_nth (y ∷ xs) (suc i) x e = ap (λ z. y ∷ z) (take_nth xs i x e)
 
 pub map_push : {X Y : Type 0} (f : X → Y) (xs : List X) (x : X) → map f (xs ++ x ∷ []) ≡ map f xs ++ f x ∷ []

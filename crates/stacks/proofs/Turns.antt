@@ -2,6 +2,7 @@
 use Rattle.std.proofs.Common.{◌≡◌, ℕ, suc, ◌+◌, ◌%◌, ◌<◌, ◌≤◌, cond, ltb, List, [], ◌∷◌, ◌++◌, length, take, set, Some, sym, refl, ap, ◌∙◌, subst, ⊎_elim, add-one, arith, length-set, take_all}
 use Rattle.std.specs.List.{slice_get}
 use Rattle.std.proofs.lemmas.Bool.{cases_eq, cases_lt, cond-true, cond-false, lt-ltb, le-ltb}
+use Rattle.std.proofs.lemmas.Option.{slice_get_within}
 use Rattle.stores.specs.Stores.{Store}
 use Rattle.stores.specs.Layers.{Layer, Stack, Sound, stacked, store}
 use Rattle.stacks.specs.declared.call.Call.{Call}
@@ -11,7 +12,7 @@ use Rattle.stacks.specs.Calls.{Ask, ask, asks}
 use Rattle.stacks.specs.Laid.{laid}
 use Rattle.stacks.specs.Law.{Right, Moves, Holds, Law}
 use Rattle.stacks.specs.Steps.{Step, Octets}
-use Rattle.stacks.proofs.Nths.{some_same, nth_within, nth_set_same, nth_set_other, take_nth, map_push}
+use Rattle.stacks.proofs.Nths.{nth_set_same, nth_set_other, take_nth, map_push}
 use Rattle.stacks.proofs.Histories.{holding, Kept, kept_none, Next, next, holds_of}
 use Rattle.stacks.proofs.Lowered.{Heard, Low, lowered}
 
@@ -102,7 +103,7 @@ module _ (ls : List Layer) (s u u' : Store) (long : 64 ≤ s.size) (even : s.siz
       (subst (λ (z : Store). Moves ls (stacked ls s) (ask d.call) (t.states j) z) (sym (old_state (suc j) (omega arith))) (t.moved j d g at_j)))
       (λ g.
       let same : i ≡ j = omega arith in
-      let d-is : e ≡ d = some_same e d (sym from ∙ ap (slice_get es) same ∙ at_j) in
+      let d-is : e ≡ d = cc (sym from ∙ ap (slice_get es) same ∙ at_j) in
       subst (λ (z : Entry). Moves ls (stacked ls s) (ask z.call) (states j) (states (suc j))) d-is
       (subst (λ (z : ℕ). Moves ls (stacked ls s) (ask e.call) (states z) (states (suc z))) same moved_now))
       (cases_lt j i)
@@ -110,8 +111,8 @@ module _ (ls : List Layer) (s u u' : Store) (long : 64 ≤ s.size) (even : s.siz
   answered_now : (k : ℕ) (d d' : Entry) → k ≡ i → slice_get es k ≡ Some d → slice_get (set cur i new) k ≡ Some d' → Right (stacked ls s) (asks (take k es)) (ask d.call) (ask d'.call) d'.answer
   unfolding new
   answered_now k d d' same at-k at-k' =
-      let de : d ≡ e = some_same d e (sym at-k ∙ ap (slice_get es) same ∙ from) in
-      let dn : d' ≡ new = some_same d' new (sym at-k' ∙ ap (slice_get (set cur i new)) same ∙ nth_set_same cur i new (nth_within cur i e at_i)) in
+      let de : d ≡ e = cc (sym at-k ∙ ap (slice_get es) same ∙ from) in
+      let dn : d' ≡ new = cc (sym at-k' ∙ ap (slice_get (set cur i new)) same ∙ nth_set_same cur i new (slice_get_within cur i e at_i)) in
       subst (λ (z : ℕ). Right (stacked ls s) (asks (take z es)) (ask d.call) (ask d'.call) d'.answer) (sym same)
       (subst (λ (z : Entry). Right (stacked ls s) (asks (take i es)) (ask z.call) (ask d'.call) d'.answer) (sym de)
       (subst (λ (z : Entry). Right (stacked ls s) (asks (take i es)) (ask e.call) (ask z.call) z.answer) (sym dn) n.right))
@@ -154,11 +155,11 @@ pub finish : (ls ls' : List Layer) (s u : Store) (es cur : List Entry) (i : ℕ)
 finish ls ls' s u es cur i same t end = record {
   layers_same = same;
   as_many = t.many;
-  answers = λ k e e' at-k at-k'. t.answered k e e' (omega (arith, nth_within es k e at-k)) at-k at-k';
+  answers = λ k e e' at-k at-k'. t.answered k e e' (omega (arith, slice_get_within es k e at-k)) at-k at-k';
   at_end = subst (λ (z : List Entry). Holds ls s u (asks z)) (take_all i es (omega arith)) (subst (λ (z : Store). Holds ls s z (asks (take i es))) t.here (t.held i (omega arith)));
   states = t.states;
   at_making = t.first;
   last_state = ap t.states (sym end) ∙ t.here;
   held = λ j l. t.held j (omega (arith, l));
-  moves = λ j e at_j. t.moved j e (omega (arith, nth_within es j e at_j)) at_j;
+  moves = λ j e at_j. t.moved j e (omega (arith, slice_get_within es j e at_j)) at_j;
 }

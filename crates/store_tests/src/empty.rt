@@ -1,7 +1,6 @@
 ghost use Rattle.stores.specs.Layers.{alone};
 ghost use Rattle.store_tests.specs.Empty.{empty_store, empty_sound};
 
-use sector::refusal::Refusal;
 use stores::fault::Fault;
 use stores::state::SectorState;
 use stores::store::SectorStore;
@@ -34,34 +33,10 @@ impl SectorStore for Empty {
     }
 
     fn read(&self, n: u64, buffer: &mut [u8]) -> Result<(), Fault> {
-        let layer = self.layer();
-        if buffer.len() != 64 {
-            return Err(Fault {
-                refusal: Refusal::BufferLength,
-                sector: n,
-                layer,
-            });
-        }
-        Err(Fault {
-            refusal: Refusal::SectorNumber,
-            sector: n,
-            layer,
-        })
+        self.dimensions().admit(n, buffer.len())
     }
 
     fn write(&mut self, n: u64, buffer: &[u8]) -> Result<(), Fault> {
-        let layer = self.layer();
-        if buffer.len() != 64 {
-            return Err(Fault {
-                refusal: Refusal::BufferLength,
-                sector: n,
-                layer,
-            });
-        }
-        Err(Fault {
-            refusal: Refusal::SectorNumber,
-            sector: n,
-            layer,
-        })
+        self.dimensions().admit(n, buffer.len())
     }
 }

@@ -88,7 +88,7 @@ fn entries(heap: Global) -> Result<Vec<Entry>, AllocError> {
     for (kind, sector, length, fill) in CALLS {
         list.push(Entry {
             call: call(kind, sector, vec![in heap; fill; length]?),
-            answer: Answer::Waiting,
+            answer: None,
         })?;
     }
     Ok(list)
@@ -118,13 +118,17 @@ const ANSWERS: [(u64, u64, u16); 20] = [
     (0, 0, 0),
 ];
 
-fn told(answer: Answer) -> (u64, u64, u16) {
+fn told(answer: Option<Answer>) -> (u64, u64, u16) {
     match answer {
-        Answer::Waiting => (u64::MAX, 0, 0),
-        Answer::Done => (0, 0, 0),
-        Answer::Number(n) => (n, 0, 0),
-        Answer::State(state) => (u64::from(state.number()), 0, 0),
-        Answer::Refused(fault) => (u64::from(fault.number()), fault.sector, fault.layer),
+        None => (u64::MAX, 0, 0),
+        Some(Answer::Transfer(Ok(()))) => (0, 0, 0),
+        Some(Answer::Transfer(Err(fault))) => (
+            u64::from(fault.number()),
+            fault.sector,
+            fault.layer,
+        ),
+        Some(Answer::Number(n)) => (n, 0, 0),
+        Some(Answer::State(state)) => (u64::from(state.number()), 0, 0),
     }
 }
 

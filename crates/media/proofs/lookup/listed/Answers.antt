@@ -1,28 +1,14 @@
-use Rattle.std.proofs.Common.{◌+◌, not, ◌&&◌, drop, is_some, sym, ap, ◌∙◌}
-use Rattle.std.proofs.lemmas.List.{drop_all}
-use Rattle.media.specs.Spared.{listed}
-use Rattle.media.proofs.Spares.{listed_past, listed_on}
+use Rattle.std.proofs.Common.{sym, ◌∙◌}
+use Rattle.media.proofs.Listing.{listed_past, listed_twice, listed_once}
 use Rattle.media.proofs.lookup.listed.Goals as goal
+use Rattle.media.proofs.lookup.listed.Goals.{then-sector-count-via-then-sector-count, then-sector-count-via-else-sector-count+then-is_some}
 
 pub returns-then-sector-count : goal.returns-then-sector-count
-returns-then-sector-count c =
-    sym (listed_past c.args.count c.args.bad.now c.loop-i.i c.loop-i-test.true c.if-sector-count.true) ∙ c.loop-i.invariant
+returns-then-sector-count c = elim c.then-sector-count.branch [
+  | then-sector-count-via-then-sector-count w ↦ sym (listed_past c.args.count _ _ c.loop-sector.bad.now c.in-Some.ensures.cases.0 w.if-sector-count.true) ∙ c.loop-sector.invariant
+  | then-sector-count-via-else-sector-count+then-is_some w ↦ sym (listed_twice c.args.count _ _ c.loop-sector.bad.now w.find.result c.in-Some.ensures.cases.0 w.if-sector-count.false w.find.ensures w.if-is_some.ensures) ∙ c.loop-sector.invariant
+]
 
-pub returns-then-is_some : goal.returns-then-is_some
-returns-then-is_some c =
-    let bad = c.args.bad.now in
-    let i = c.loop-i.i in
-    sym (listed_on c.args.count bad i c.loop-i-test.true c.is_some.result c.if-sector-count.false (c.is_some.ensures ∙ ap is_some c.find.ensures)
-    ∙ ap (λ b. not b && listed c.args.count (drop (i + 1) bad)) c.if-is_some.true)
-    ∙ c.loop-i.invariant
-
-pub loop-i-preserved : goal.loop-i-preserved
-loop-i-preserved c =
-    let bad = c.args.bad.now in
-    let i = c.loop-i.i in
-    sym (listed_on c.args.count bad i c.loop-i-test.true c.is_some.result c.if-sector-count.false (c.is_some.ensures ∙ ap is_some c.find.ensures)
-    ∙ ap (λ b. not b && listed c.args.count (drop (i + 1) bad)) c.if-is_some.false)
-    ∙ c.loop-i.invariant
-
-pub returns : goal.returns
-returns c = sym (ap (listed c.args.count) (drop_all c.loop-i.i c.args.bad.now c.loop-i-test.false)) ∙ c.loop-i.invariant
+pub loop-sector-preserved : goal.loop-sector-preserved
+loop-sector-preserved c =
+    sym (listed_once c.args.count _ _ c.loop-sector.bad.now c.find.result c.in-Some.ensures.cases.0 c.if-sector-count.false c.find.ensures c.if-is_some.ensures) ∙ c.loop-sector.invariant

@@ -1,6 +1,9 @@
-use Rattle.std.proofs.Common.{◌≡◌, drop}
+use Rattle.std.proofs.Common.{◌≡◌, length}
 use Rattle.media.specs.Spared.{listed}
 use Rattle.media.proofs.lookup.listed.Given as goal
 
-abbrev pub invariant-loop-i : goal.invariant-loop-i
-invariant-loop-i l = listed l.count (drop l.i l.bad) ≡ listed l.count l.bad
+abbrev pub invariant-loop-sector : goal.invariant-loop-sector
+invariant-loop-sector l = listed l.count l.bad ≡ listed l.count l.initial.bad
+
+abbrev pub decreases-loop-sector : goal.decreases-loop-sector
+decreases-loop-sector l = length l.bad

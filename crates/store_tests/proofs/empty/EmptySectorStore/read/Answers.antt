@@ -1,22 +1,11 @@
-use Rattle.std.proofs.Common.{length}
-use Rattle.sector.specs.declared.refusal.Refusal.TheVariants.{BufferLength, SectorNumber}
-use Rattle.stores.proofs.Answered.{refusal_length, read_refused}
-use Rattle.store_tests.specs.Empty.{empty_store}
-use Rattle.store_tests.proofs.Refusing.{no_sector, told}
+use Rattle.std.proofs.Common.{length, ap, ◌∙◌}
+use Rattle.stores.specs.Stores.{misfit, outcome}
+use Rattle.store_tests.proofs.Refusing.{tested, read_none}
 use Rattle.store_tests.proofs.empty.EmptySectorStore.read.Goals as goal
-
-pub returns-then-buffer-ne64 : goal.returns-then-buffer-ne64
-returns-then-buffer-ne64 c =
-    let l = c.args.self.now.layer in
-    let n = c.args.n in
-    let old = c.args.buffer.now in
-    let e = refusal_length (empty_store l) n (length old) c.if-buffer-ne64.true in
-    record { answer = told BufferLength n _ _ _ e c.layer-layer.ensures; filled = read_refused (empty_store l) n old _ _ e }
 
 pub returns : goal.returns
 returns c =
     let l = c.args.self.now.layer in
     let n = c.args.n in
-    let old = c.args.buffer.now in
-    let e = no_sector l n (length old) c.if-buffer-ne64.false in
-    record { answer = told SectorNumber n _ _ _ e c.layer-layer.ensures; filled = read_refused (empty_store l) n old _ _ e }
+    let xs = c.args.buffer.now in
+    record { answer = c.admit.ensures ∙ ap (λ d. outcome (misfit d n (length xs))) c.dimensions.ensures ∙ ap outcome (tested l n (length xs)); filled = read_none l n xs _ }

@@ -1,0 +1,22 @@
+use Rattle.std.proofs.Common.{sym, ◌∙◌, arith}
+use Rattle.stores.proofs.Answered.{state_in, state_out}
+use Rattle.media.specs.Spared.{laid_out}
+use Rattle.media.proofs.Placing.{is_ready, is_failed}
+use Rattle.media.proofs.medium.MediumSectorStore.state.Goals as goal
+
+pub returns-then-n-count : goal.returns-then-n-count
+returns-then-n-count g c =
+    let s = c.args.self.now in
+    sym (state_out (laid_out (g.L.Layout.sectors s.layout) s.length (g.L.Layout.bytes s.layout s.bytes.now s.length) (g.L.Layout.lies s.layout)) c.args.n (omega (arith, c.count.ensures)))
+
+pub returns-in-Ok : goal.returns-in-Ok
+returns-in-Ok g c =
+    let s = c.args.self.now in
+    is_ready c.args.n (g.L.Layout.lies s.layout c.args.n) _ c.in-Ok.ensures
+    ∙ sym (state_in (laid_out (g.L.Layout.sectors s.layout) s.length (g.L.Layout.bytes s.layout s.bytes.now s.length) (g.L.Layout.lies s.layout)) c.args.n (omega (arith, c.count.ensures)))
+
+pub returns-in-Err : goal.returns-in-Err
+returns-in-Err g c =
+    let s = c.args.self.now in
+    is_failed c.args.n (g.L.Layout.lies s.layout c.args.n) _ c.in-Err.ensures
+    ∙ sym (state_in (laid_out (g.L.Layout.sectors s.layout) s.length (g.L.Layout.bytes s.layout s.bytes.now s.length) (g.L.Layout.lies s.layout)) c.args.n (omega (arith, c.count.ensures)))
