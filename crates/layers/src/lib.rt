@@ -1,5 +1,4 @@
 #![tactic(auto)]
 
 pub mod cipher;
-mod height;
 pub mod window;

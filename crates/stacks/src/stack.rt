@@ -1,7 +1,7 @@
 ghost use Rattle.std.specs.Prelude.{◌≡◌, List, [], ◌∷◌, length};
-ghost use Rattle.stores.specs.Layers.{Layer, enciphering, window};
+ghost use Rattle.stores.specs.Layers.{Layer, enciphering, over, window};
 ghost use Rattle.stacks.specs.Laid.{laid};
-ghost use Rattle.std.proofs.Common.{refl, ap, suc, rules};
+ghost use Rattle.std.proofs.Common.{refl, ap, suc};
 
 use ciphers::function::BlockFunction;
 use hashing::BlockHash;
@@ -33,28 +33,28 @@ impl<S: SectorStore> StackOn<S, Zero> for S {
 
     ghost lowest = { λ s. s };
 
-    ghost stands = { Prim.search rules };
+    ghost stands = { λ s. refl };
 
     ghost deep = { λ s t. refl };
 }
 
 impl<B: SectorStore, N, P: StackOn<B, N>, F: BlockFunction, H: BlockHash> StackOn<B, Next<N>>
     for CipherLayer<P, F, H> {
-    ghost above = { λ s. enciphering (F.BlockFunction.function s.function) (H.BlockHash.hash s.hash) ∷ P.StackOn.above s.below };
+    ghost above = { λ s. enciphering (F.BlockFunction.function s.cipher.function) (H.BlockHash.hash s.cipher.hash) ∷ P.StackOn.above s.below };
 
     ghost lowest = { λ s. P.StackOn.lowest s.below };
 
-    ghost stands = { Prim.search rules };
+    ghost stands = { λ s. ap (over (enciphering (F.BlockFunction.function s.cipher.function) (H.BlockHash.hash s.cipher.hash))) (P.StackOn.stands s.below) };
 
     ghost deep = { λ s t. ap suc (P.StackOn.deep s.below t.below) };
 }
 
 impl<B: SectorStore, N, P: StackOn<B, N>> StackOn<B, Next<N>> for Window<P> {
-    ghost above = { λ s. window s.base s.count ∷ P.StackOn.above s.below };
+    ghost above = { λ s. window s.run.base s.run.count ∷ P.StackOn.above s.below };
 
     ghost lowest = { λ s. P.StackOn.lowest s.below };
 
-    ghost stands = { Prim.search rules };
+    ghost stands = { λ s. ap (over (window s.run.base s.run.count)) (P.StackOn.stands s.below) };
 
     ghost deep = { λ s t. ap suc (P.StackOn.deep s.below t.below) };
 }

@@ -1,6 +1,8 @@
 -- What a store's calls answer, case by case. Assumes nothing.
-use Rattle.std.proofs.Common.{◌≡◌, ℕ, ◌<◌, ◌≤◌, Bool, true, false, cond, eqb, ltb, List, Some, None, Ok, Err, Option, sym, ap, ◌∙◌, arith}
+use Rattle.std.proofs.Common.{◌≡◌, ℕ, ◌<◌, ◌≤◌, Bool, true, false, cond, eqb, ltb, List, Some, None, Ok, Err, Option, Result, sym, ap, ◌∙◌, arith}
 use Rattle.std.proofs.lemmas.Bool.Decides.{nat_tests}
+use Rattle.std.specs.Result.{IsErrAnd}
+use Rattle.std.proofs.lemmas.Result.{err_from_is_err_and}
 use Rattle.stores.specs.declared.dimensions.Dimensions.{Dimensions}
 use Rattle.stores.specs.declared.fault.Fault.{Fault}
 use Rattle.stores.specs.declared.state.SectorState.TheVariants.{Missing}
@@ -34,11 +36,19 @@ module _ (s : Store) (n : ℕ) where
 pub kept : (old new : List ℕ) (f : Fault) (v : Option Fault) → v ≡ Some f → old ≡ filled v old new
 kept old new f v e = ap (λ x. filled x old new) (sym e)
 
+-- what an accepted read leaves in its buffer
+pub was_filled : (old new : List ℕ) (v : Option Fault) → v ≡ None → filled v old new ≡ new
+was_filled old new v e = ap (λ x. filled x old new) e
+
 pub read_refused : (s : Store) (n : ℕ) (old : List ℕ) (f : Fault) (v : Option Fault) → v ≡ Some f → old ≡ filled v old (s.bytes n)
 read_refused s n old f v e = kept old (s.bytes n) f v e
 
 pub write_refused : (p : Stack) (n : ℕ) (xs : List ℕ) (f : Fault) (v : Option Fault) → v ≡ Some f → p ≡ after_write v p n xs
 write_refused p n xs f v e = ap (λ x. after_write x p n xs) (sym e)
+
+-- a `?` that hands a fault on
+pub handed_on : (r : Result (Unit {0}) Fault) (f : Fault) (v : Option Fault) → v ≡ Some f → IsErrAnd r (λ x. x ≡ f) → r ≡ outcome v
+handed_on r f v e h = let p = err_from_is_err_and r h in p.1 ∙ ap Err p.2 ∙ ap outcome (sym e)
 
 -- what the tests by the dimensions of a store say of a read or a write
 module _ (s : Store) (n len : ℕ) (d : Dimensions) (is : d ≡ dimensions s) where

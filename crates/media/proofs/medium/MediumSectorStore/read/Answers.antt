@@ -1,7 +1,6 @@
-use Rattle.std.proofs.Common.{length, Err, sym, ap, ◌∙◌}
-use Rattle.std.proofs.lemmas.Result.{err_from_is_err_and}
+use Rattle.std.proofs.Common.{length, sym, ap, ◌∙◌}
 use Rattle.stores.specs.Stores.{outcome, failure, filled}
-use Rattle.stores.proofs.Answered.{turned_away, admitted, refusal_in, read_refused}
+use Rattle.stores.proofs.Answered.{turned_away, admitted, refusal_in, read_refused, handed_on}
 use Rattle.media.specs.Media.{place}
 use Rattle.media.specs.Spared.{laid_out, lost}
 use Rattle.media.proofs.Placing.{found, fails, room_for}
@@ -14,8 +13,7 @@ returns-in_err-admit g c =
     let xs = c.args.buffer.now in
     let m = laid_out (g.L.Layout.sectors s.layout) s.length (g.L.Layout.bytes s.layout s.bytes.now s.length) (g.L.Layout.lies s.layout) in
     let e = turned_away m n (length xs) _ c.dimensions.ensures _ c.in_err-admit.ensures in
-    let p = err_from_is_err_and c.from_residual.result c.from_residual.ensures.1 in
-    record { answer = p.1 ∙ ap Err p.2 ∙ ap outcome (sym e); filled = read_refused m n xs _ _ e }
+    record { answer = handed_on _ _ _ e c.from_residual.ensures.1; filled = read_refused m n xs _ _ e }
 
 pub returns-in_err-place : goal.returns-in_err-place
 returns-in_err-place g c =
@@ -25,8 +23,7 @@ returns-in_err-place g c =
     let m = laid_out (g.L.Layout.sectors s.layout) s.length (g.L.Layout.bytes s.layout s.bytes.now s.length) (g.L.Layout.lies s.layout) in
     let fit = admitted m n (length xs) _ c.dimensions.ensures _ c.in_ok-admit.ensures in
     let e = refusal_in m n (length xs) fit.0 fit.1 ∙ fails n (g.L.Layout.lies s.layout n) _ c.in_err-place.ensures in
-    let p = err_from_is_err_and c.from_residual-in_err-place.result c.from_residual-in_err-place.ensures.1 in
-    record { answer = p.1 ∙ ap Err p.2 ∙ ap outcome (sym e); filled = read_refused m n xs _ _ e }
+    record { answer = handed_on _ _ _ e c.from_residual-in_err-place.ensures.1; filled = read_refused m n xs _ _ e }
 
 pub get_place-requires : goal.get_place-requires
 get_place-requires g c =

@@ -1,9 +1,8 @@
-use Rattle.std.proofs.Common.{◌≡◌, ℕ, ◌*◌, List, length, Err, sym, refl, ap, ◌∙◌}
+use Rattle.std.proofs.Common.{◌≡◌, ℕ, ◌*◌, List, length, sym, refl, ap, ◌∙◌}
 use borrow.Rule.Slice.PartMut.{put_mid}
-use Rattle.std.proofs.lemmas.Result.{err_from_is_err_and}
 use Rattle.stores.specs.Stores.{outcome, failure}
 use Rattle.stores.specs.Layers.{alone, after_write}
-use Rattle.stores.proofs.Answered.{turned_away, admitted, refusal_in, write_refused}
+use Rattle.stores.proofs.Answered.{turned_away, admitted, refusal_in, write_refused, handed_on}
 use Rattle.media.specs.Media.{place}
 use Rattle.media.specs.Spared.{laid_out, lost, own_or}
 use Rattle.media.proofs.Placing.{found, fails, room_for, elsewhere, laid_put}
@@ -16,8 +15,7 @@ returns-in_err-admit g c =
     let xs = c.args.buffer.now in
     let m = laid_out (g.L.Layout.sectors s.layout) s.length (g.L.Layout.bytes s.layout s.bytes.now s.length) (g.L.Layout.lies s.layout) in
     let e = turned_away m n (length xs) _ c.dimensions.ensures _ c.in_err-admit.ensures in
-    let p = err_from_is_err_and c.from_residual.result c.from_residual.ensures.1 in
-    record { answer = p.1 ∙ ap Err p.2 ∙ ap outcome (sym e); after = write_refused (alone m) n xs _ _ e; kept = λ h. refl; elsewhere = λ p ne. refl }
+    record { answer = handed_on _ _ _ e c.from_residual.ensures.1; after = write_refused (alone m) n xs _ _ e; kept = λ h. refl; elsewhere = λ p ne. refl }
 
 pub returns-in_err-place : goal.returns-in_err-place
 returns-in_err-place g c =
@@ -27,8 +25,7 @@ returns-in_err-place g c =
     let m = laid_out (g.L.Layout.sectors s.layout) s.length (g.L.Layout.bytes s.layout s.bytes.now s.length) (g.L.Layout.lies s.layout) in
     let fit = admitted m n (length xs) _ c.dimensions.ensures _ c.in_ok-admit.ensures in
     let e = refusal_in m n (length xs) fit.0 fit.1 ∙ fails n (g.L.Layout.lies s.layout n) _ c.in_err-place.ensures in
-    let p = err_from_is_err_and c.from_residual-in_err-place.result c.from_residual-in_err-place.ensures.1 in
-    record { answer = p.1 ∙ ap Err p.2 ∙ ap outcome (sym e); after = write_refused (alone m) n xs _ _ e; kept = λ h. refl; elsewhere = λ p ne. refl }
+    record { answer = handed_on _ _ _ e c.from_residual-in_err-place.ensures.1; after = write_refused (alone m) n xs _ _ e; kept = λ h. refl; elsewhere = λ p ne. refl }
 
 pub put_place-requires : goal.put_place-requires
 put_place-requires g c =
