@@ -4,14 +4,20 @@ use Rattle.std.proofs.lemmas.Fmt.{decimal_digit, decimal_nonempty, length-decima
 use Rattle.std.proofs.lemmas.Str.Parse.{FoldsDigits, IsNumeralModel, numerals_by_fold, tells_all_ascii_digits}
 use Rattle.std.proofs.lemmas.Bool.{cases_Bool, cases_lt, cond-true, cond-false, and_parts, and_from, or_cases, or_left, or_right, not-true, not_from_false, eqb-true, eqb-false, eq-eqb, ne_eqb, leb-true, le-leb, ltb-true, lt-ltb}
 use Rattle.std.proofs.lemmas.Bool.Decides.{nat_tests}
+use Rattle.std.proofs.lemmas.List.Recursion.{same_from_clauses}
 use Rattle.std.specs.Char.{is_ascii_digit}
+use Rattle.std.specs.List.{list_all}
 use Rattle.std.specs.Int.Digits.{number_from_digits_after}
 use Rattle.std.specs.Str.{all_ascii_digits}
 use Rattle.text.specs.Hex.{between, digit, digit_value, digits_number}
 use Rattle.text.specs.Numbers.{number_digits, number_word}
 use Rattle.text.specs.Writing.{small, Unspaced}
 
--- ---- the value of decimal digits
+-- ---- decimal digits
+
+-- what `all` answers of them
+pub digits_test : (t : List ℕ) → list_all is_ascii_digit t ≡ all_ascii_digits t
+digits_test t = same_from_clauses (list_all is_ascii_digit) all_ascii_digits (λ c b. is_ascii_digit c && b) refl (λ c t. refl) (λ c t. refl) t
 
 digit_decimal : (c : ℕ) → 48 ≤ c → c ≤ 57 → digit_value c ≡ c - 48
 unfolding digit
@@ -87,11 +93,11 @@ number_word_text w n e =
     (sym (digits_text w t below) ∙ ap decimal same, omega arith))
     (λ s.
     let g : None ≡ Some n = sym (cond-false (ltb v (2 ^ 64)) (Some v) None s) ∙ f in
-    let z : ◌≡◌ {A = ℕ} 0 1 = cc in absurd (omega arith))
+    absurd (cc))
     (cases_Bool (ltb v (2 ^ 64))))
     (λ t.
     let f : None ≡ Some n = sym (cond-false (number_digits w) inner None t) ∙ e in
-    let z : ◌≡◌ {A = ℕ} 0 1 = cc in absurd (omega arith))
+    absurd (cc))
     (cases_Bool (number_digits w))
 
 -- ---- decimal digits have no case

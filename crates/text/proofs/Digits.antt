@@ -48,19 +48,3 @@ number_room b t i x r s h l e f =
 pub blocks_length : (n : ℕ) (t : List ℕ) → length (hex_blocks n t) ≡ n
 blocks_length zero t = refl
 blocks_length (suc n) t = ap suc (blocks_length n (drop 32 t))
-
-pub blocks_at : (n i : ℕ) (t : List ℕ) (d : Block) → i < n → get_or (hex_blocks n t) i d ≡ hex_block (take 32 (drop (32 * i) t))
-blocks_at zero i t d h = absurd (omega arith)
-blocks_at (suc n) zero t d h = refl
-blocks_at (suc n) (suc i) t d h =
-    let e : 32 + 32 * i ≡ 32 * suc i = omega arith in
-    blocks_at n i (drop 32 t) d (omega arith) ∙ ap (λ (l : List ℕ). hex_block (take 32 l)) (drop-drop (32 * i) 32 t ∙ ap (λ (k : ℕ). drop k t) e)
-
--- ---- the test of every digit
-
-pub digits_here : (t : List ℕ) (i : ℕ) → i < length t → all_digits (drop i t) ≡ (is_some (digit (get_or t i 0)) && all_digits (drop (i + 1) t))
-digits_here (c ∷ t) zero h = refl
-digits_here (c ∷ t) (suc i) h =
-    let e : suc i + 1 ≡ suc (i + 1) = omega arith in
-    digits_here t i (omega arith) ∙ ap (λ (k : ℕ). is_some (digit (get_or t i 0)) && all_digits (drop k (c ∷ t))) (sym e)
-digits_here [] i h = absurd (omega arith)

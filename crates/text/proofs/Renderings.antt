@@ -1,5 +1,6 @@
 -- Blocks and lists as words, written and read. Assumes nothing.
 use Rattle.std.proofs.Common.{◌≡◌, ℕ, zero, suc, ◌*◌, ◌/◌, ◌%◌, ◌^◌, ◌<◌, Bool, true, false, cond, ◌&&◌, eqb, ltb, List, [], ◌∷◌, ◌++◌, map, length, take, drop, is_some, Some, None, codes, Option, sym, refl, ap, ◌∙◌, subst, ap₂, ⊎_elim, mod-eq_of_lt, arith}
+use Rattle.std.proofs.lemmas.List.Folds.{list_all-append}
 use Rattle.std.proofs.lemmas.Int.Digits.{number_lt}
 use Rattle.std.proofs.lemmas.Slice.Eq.{bytes_eq-Decides}
 use Rattle.std.proofs.lemmas.List.{length-map, length-append, map-append, take-append-drop, length-take-le, length-drop, take-map, drop-map, take_at, drop_at, nil_from_length}
@@ -76,7 +77,7 @@ block_word_text w x e =
     text_of_block w (eqb-true (length w) 32 p.0) p.1 ∙ ap (block_text small_digit) g)
     (λ t.
     let f : None ≡ Some x = sym (cond-false (one_block w) (Some (hex_block w)) None t) ∙ e in
-    let z : ◌≡◌ {A = ℕ} 0 1 = cc in absurd (omega arith))
+    absurd (cc))
     (cases_Bool (one_block w))
 
 pub block_word_small : (w : List ℕ) → block_word (map small w) ≡ block_word w
@@ -88,21 +89,13 @@ block_word_small w =
 
 -- ---- lists of blocks
 
-and_assoc : (x y z : Bool) → (x && (y && z)) ≡ ((x && y) && z)
-and_assoc true y z = refl
-and_assoc false y z = refl
-
-digits_append : (a b : List ℕ) → all_digits (a ++ b) ≡ (all_digits a && all_digits b)
-digits_append [] b = refl
-digits_append (c ∷ a) b = ap (λ t. is_some (digit c) && t) (digits_append a b) ∙ and_assoc (is_some (digit c)) (all_digits a) (all_digits b)
-
 texts_length : (d : ℕ → ℕ) (xs : List Block) → length (blocks_text d xs) ≡ 32 * length xs
 texts_length d [] = refl
 texts_length d (x ∷ xs) = length-append (block_text d x) (blocks_text d xs) ∙ omega (arith, text_length d x, texts_length d xs)
 
 texts_digits : (xs : List Block) → all_digits (blocks_text small_digit xs) ≡ true
 texts_digits [] = refl
-texts_digits (x ∷ xs) = digits_append (block_text small_digit x) (blocks_text small_digit xs) ∙ ap₂ ◌&&◌ (text_digits x) (texts_digits xs)
+texts_digits (x ∷ xs) = list_all-append (λ c. is_some (digit c)) (block_text small_digit x) (blocks_text small_digit xs) ∙ ap₂ ◌&&◌ (text_digits x) (texts_digits xs)
 
 blocks_of_texts : (xs : List Block) → hex_blocks (length xs) (blocks_text small_digit xs) ≡ xs
 blocks_of_texts [] = refl
@@ -118,7 +111,7 @@ texts_of_blocks zero w l h = ap (map small) (nil_from_length w (omega (arith, l)
 texts_of_blocks (suc n) w l h =
     let a : List ℕ = take 32 w in
     let b : List ℕ = drop 32 w in
-    let p = and_parts (all_digits a) (all_digits b) (sym (digits_append a b) ∙ ap all_digits (take-append-drop 32 w) ∙ h) in
+    let p = and_parts (all_digits a) (all_digits b) (sym (list_all-append (λ c. is_some (digit c)) a b) ∙ ap all_digits (take-append-drop 32 w) ∙ h) in
     let la : length a ≡ 32 = length-take-le 32 w (omega (arith, l)) in
     let lb : length b ≡ 32 * n = length-drop 32 w ∙ omega (arith, l) in
     ap (map small) (sym (take-append-drop 32 w)) ∙ map-append small a b
@@ -139,9 +132,9 @@ not_dash w h =
     ⊎_elim (λ t. absurd (h (ap length ((bytes_eq-Decides w (codes "-")).0 t)))) (λ t. t) (cases_Bool (bytes_eq w (codes "-")))
 
 dash_small : (w : List ℕ) → map small w ≡ codes "-" → w ≡ codes "-"
-dash_small [] e = let z : ◌≡◌ {A = ℕ} 0 1 = cc in absurd (omega arith)
+dash_small [] e = absurd (cc)
 dash_small (c ∷ []) e = let f : small c ≡ 45 = cc in ap (λ x. x ∷ []) (small_dash c f)
-dash_small (c ∷ (d ∷ w)) e = let z : ◌≡◌ {A = ℕ} 0 1 = cc in absurd (omega arith)
+dash_small (c ∷ (d ∷ w)) e = absurd (cc)
 
 pub read_list_text : (xs : List Block) → list_word (list_text small_digit xs) ≡ Some xs
 unfolding list_word
@@ -187,7 +180,7 @@ list_word_text w xs e =
     list_blocks_text w s ∙ ap (list_text small_digit) g)
     (λ s.
     let f : None ≡ Some xs = sym (cond-false (some_blocks w) (Some (hex_blocks_of w)) None s) ∙ e' in
-    let z : ◌≡◌ {A = ℕ} 0 1 = cc in absurd (omega arith))
+    absurd (cc))
     (cases_Bool (some_blocks w)))
     (cases_Bool (bytes_eq w (codes "-")))
 

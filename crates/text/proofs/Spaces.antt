@@ -1,7 +1,10 @@
 -- Words and the text that they make. Assumes nothing.
-use Rattle.std.proofs.Common.{◌≡◌, ℕ, ◌+◌, ◌<◌, Bool, true, false, cond, not, ◌&&◌, eqb, List, [], ◌∷◌, ◌++◌, map, length, get_or, take, drop, codes, sym, refl, ap, ◌∙◌, ap₂, ⊎_elim}
-use Rattle.std.proofs.lemmas.List.{take_more, drop_more, append_assoc, append-nil}
-use Rattle.std.proofs.lemmas.Bool.{cases_Bool, cond_both, and_parts, not-true, eqb-true, eqb-false, eq-eqb, ne_eqb}
+use Rattle.std.proofs.Common.{◌≡◌, ℕ, ◌+◌, ◌<◌, ◌≤◌, zero, suc, Bool, true, false, cond, not, ◌&&◌, eqb, ltb, List, [], ◌∷◌, ◌++◌, map, length, get_or, take, drop, Some, None, codes, Option, sym, refl, ap, ◌∙◌, ap₂, ⊎_elim, arith}
+use Rattle.std.proofs.lemmas.List.{take-append-drop, drop_more}
+use Rattle.std.proofs.lemmas.List.Quantifiers.{position-Some}
+use Rattle.std.proofs.lemmas.Option.{none-some}
+use Rattle.std.specs.List.{position, position_or_len}
+use Rattle.std.proofs.lemmas.Bool.{cases_Bool, cond-true, cond_both, and_parts, not-true, eqb-true, eqb-false, eq-eqb, ne_eqb, ltb-false}
 use Rattle.text.specs.Writing.{small_digit, small, Unspaced, AllUnspaced}
 use Rattle.text.specs.Words.{before_first, words, spaced}
 use Rattle.text.proofs.Hexes.{digit_no_space, small_space}
@@ -10,25 +13,6 @@ use Rattle.text.proofs.Hexes.{digit_no_space, small_space}
 abbrev pub after : List ℕ → List (List ℕ) → List (List ℕ)
 after t [] = t ∷ []
 after t (w ∷ ws) = (t ++ w) ∷ ws
-
-after_before : (t : List ℕ) (c : ℕ) (ws : List (List ℕ)) → after t (before_first c ws) ≡ after (t ++ (c ∷ [])) ws
-after_before t c [] = refl
-after_before t c (w ∷ ws) = ap (λ x. x ∷ ws) (sym (append_assoc t (c ∷ []) w))
-
--- a byte that is no space goes to the first word
-pub words_more : (t : List ℕ) (i : ℕ) → i < length t → (get_or t i 0 ≡ 32 → ⊥) → after (take i t) (words (drop i t)) ≡ after (take (i + 1) t) (words (drop (i + 1) t))
-words_more t i h n =
-    ap (λ l. after (take i t) (words l)) (drop_more t i 0 h)
-    ∙ ap (λ b. after (take i t) (cond b ([] ∷ words (drop (i + 1) t)) (before_first (get_or t i 0) (words (drop (i + 1) t))))) (ne_eqb (get_or t i 0) 32 n)
-    ∙ after_before (take i t) (get_or t i 0) (words (drop (i + 1) t))
-    ∙ ap (λ l. after l (words (drop (i + 1) t))) (sym (take_more t i 0 h))
-
--- a space ends it
-pub words_cut : (t : List ℕ) (i : ℕ) → i < length t → get_or t i 0 ≡ 32 → after (take i t) (words (drop i t)) ≡ take i t ∷ words (drop (i + 1) t)
-words_cut t i h e =
-    ap (λ l. after (take i t) (words l)) (drop_more t i 0 h)
-    ∙ ap (λ b. after (take i t) (cond b ([] ∷ words (drop (i + 1) t)) (before_first (get_or t i 0) (words (drop (i + 1) t))))) (eq-eqb (get_or t i 0) 32 e)
-    ∙ ap (λ x. x ∷ words (drop (i + 1) t)) (append-nil (take i t))
 
 -- there is always a first word
 after_none : (c : ℕ) (ws : List (List ℕ)) → before_first c ws ≡ after [] (before_first c ws)
@@ -87,6 +71,40 @@ words_unspaced [] = (tt, tt)
 words_unspaced (c ∷ t) =
     cond_both (eqb c 32) ([] ∷ words t) (before_first c (words t)) AllUnspaced
     (λ e. (tt, words_unspaced t)) (λ e. unspaced_before c (words t) (eqb-false c 32 e) (words_unspaced t))
+
+-- ---- the first word, by the first space
+
+abbrev pub first_space : List ℕ → Option ℕ
+first_space t = position (λ c. eqb c 32) t
+
+unspaced_until : (t : List ℕ) (i : ℕ) → ((k : ℕ) → k < i → eqb (get_or t k 0) 32 ≡ false) → Unspaced (take i t)
+unspaced_until t zero h = tt
+unspaced_until [] (suc i) h = tt
+unspaced_until (c ∷ t) (suc i) h = (eqb-false c 32 (h 0 (omega arith)), unspaced_until t i (λ k l. h (suc k) (omega arith)))
+
+pub words_cut : (t : List ℕ) (i : ℕ) → first_space t ≡ Some i → words t ≡ take i t ∷ words (drop (i + 1) t)
+words_cut t i e =
+    let p = position-Some (λ c. eqb c 32) t i 0 e in
+    let whole : t ≡ take i t ++ (32 ∷ drop (i + 1) t) =
+    sym (take-append-drop i t) ∙ ap (λ l. take i t ++ l) (drop_more t i 0 p.0)
+    ∙ ap (λ c. take i t ++ (c ∷ drop (i + 1) t)) (eqb-true (get_or t i 0) 32 p.1) in
+    ap words whole ∙ words_front (take i t) (drop (i + 1) t) (unspaced_until t i p.2)
+
+unspaced_all : (t : List ℕ) → length t ≤ position_or_len (λ c. eqb c 32) t → Unspaced t
+unspaced_all [] h = tt
+unspaced_all (c ∷ t) h =
+    ⊎_elim
+    (λ e. absurd (omega (arith, rw e at h)))
+    (λ e. (eqb-false c 32 e, unspaced_all t (omega (arith, rw e at h))))
+    (cases_Bool (eqb c 32))
+
+pub words_uncut : (t : List ℕ) → first_space t ≡ None → words t ≡ t ∷ []
+words_uncut t e =
+    let n : ℕ = position_or_len (λ c. eqb c 32) t in
+    ⊎_elim
+    (λ l. let f : Some n ≡ None = sym (cond-true (ltb n (length t)) (Some n) None l) ∙ e in absurd (none-some n (sym f)))
+    (λ l. words_one t (unspaced_all t (ltb-false n (length t) l)))
+    (cases_Bool (ltb n (length t)))
 
 -- ---- no space in a word
 

@@ -1,7 +1,9 @@
 -- Blocks as hex digits. Assumes nothing.
 use Rattle.std.specs.Prelude.{ℕ, zero, suc, ◌-◌, ◌/◌, ◌%◌, Bool, true, cond, ◌&&◌, List, [], ◌∷◌, map, length, take, drop, is_some, Some, None, codes, Option, ◌==◌, nat_le, nat_lt}
+use Rattle.std.specs.List.{list_all}
 use Rattle.std.specs.Option.{unwrap_or}
 use Rattle.std.specs.Int.Digits.{number_from_digits}
+use Rattle.std.specs.Simd.{first_chunks}
 use Rattle.std.specs.Str.{bytes_eq}
 use Rattle.elements.specs.Values.{block}
 use Rattle.elements.specs.declared.values.Block.{Block}
@@ -24,8 +26,7 @@ digit_value c = unwrap_or (digit c) 0
 
 -- hex digits and nothing else
 abbrev pub all_digits : List ℕ → Bool
-all_digits [] = true
-all_digits (c ∷ cs) = is_some (digit c) && all_digits cs
+all_digits t = list_all (λ c. is_some (digit c)) t
 
 -- the number that digits write in a base, the highest first
 abbrev pub digits_number : ℕ → List ℕ → ℕ
@@ -37,8 +38,7 @@ hex_block t = block (digits_number 16 t)
 
 -- the first n blocks of a text of digits, 32 to a block
 abbrev pub hex_blocks : ℕ → List ℕ → List Block
-hex_blocks zero t = []
-hex_blocks (suc n) t = hex_block (take 32 t) ∷ hex_blocks n (drop 32 t)
+hex_blocks n t = map hex_block (first_chunks 32 n t)
 
 -- the blocks of a text of digits, but for what is left over at its end
 abbrev pub hex_blocks_of : List ℕ → List Block

@@ -3,31 +3,21 @@ ghost use Rattle.std.specs.Option.{option_map};
 ghost use Rattle.text.specs.Hex.{digit as digit_of, all_digits, digits_number, hex_block as block_of_digits, hex_blocks_of, one_block, some_blocks, block_word, list_word};
 ghost use Rattle.text.specs.Views.{block_in, blocks_in};
 
-use crate::words::same;
 use elements::values::Block;
 use polynomials::lists::Elements;
 
 // The value of a hex digit in either case.
-fn digit(c: u8) -> Option<u8>
+#[tactic(auto, using(std::proofs::lemmas::Bool::Decides::nat_tests), unfolding(crate::specs::Hex::digit))]
+fn digit(c: u8) -> Option<u32>
     ensures { result ≡ digit_of c }
 {
-    match c {
-        b'0'..=b'9' => Some(c - b'0'),
-        b'A'..=b'F' => Some(c - b'A' + 10),
-        b'a'..=b'f' => Some(c - b'a' + 10),
-        _ => None,
-    }
+    char::from(c).to_digit(16)
 }
 
 fn is_hex(text: &[u8]) -> bool
     ensures { result ≡ all_digits text.now }
 {
-    for c in text {
-        if digit(*c).is_none() {
-            return false;
-        }
-    }
-    true
+    text.iter().all(|c| digit(*c).is_some())
 }
 
 // The number that digits write in a base, the highest first. What is no digit counts as 0.
@@ -44,6 +34,7 @@ pub(crate) fn number_of(base: u8, digits: &[u8]) -> u128
 }
 
 // The block that so many digits write.
+#[tactic(auto, unfolding(crate::specs::Hex::hex_block))]
 fn hex_block(digits: &[u8]) -> Block
     requires { length digits.now ≤ 32 }
     ensures { result ≡ block_of_digits digits.now }
@@ -62,53 +53,39 @@ impl<'a> Elements<Block> for HexBlocks<'a> {
     ghost items = { λ s. hex_blocks_of s.digits.now };
 
     fn len(&self) -> usize {
-        self.digits.len() / 32
+        self.digits.as_chunks::<32>().0.len()
     }
 
     fn get(&self, i: usize) -> Option<Block> {
-        if i >= self.digits.len() / 32 {
-            return None;
-        }
-        Some(hex_block(&self.digits[32 * i..32 * i + 32]))
+        let (blocks, _) = self.digits.as_chunks::<32>();
+        blocks.get(i).map(|digits| hex_block(digits))
     }
-}
-
-// Whether a word is the digits of one block.
-fn is_block(word: &[u8]) -> bool
-    ensures { result ≡ one_block word.now }
-{
-    word.len() == 32 && is_hex(word)
 }
 
 // Whether a word is the digits of blocks, of one at least.
 fn is_blocks(word: &[u8]) -> bool
     ensures { result ≡ some_blocks word.now }
 {
-    word.len() > 0 && word.len() % 32 == 0 && is_hex(word)
+    !word.is_empty() && word.len() % 32 == 0 && is_hex(word)
 }
 
 // The block that a word writes, as the bytes that it lies as, if the word is 32 hex digits.
+#[tactic(auto, unfolding(crate::specs::Hex::block_word))]
 pub fn read_block(word: &[u8]) -> Option<[u8; 16]>
     ensures { option_map block_in result ≡ block_word word.now }
 {
-    if is_block(word) {
-        Some(hex_block(word).to_bytes())
-    } else {
-        None
-    }
+    let digits = word.as_array::<32>()?;
+    is_hex(digits).then_some(hex_block(digits).to_bytes())
 }
 
 // The list that a word writes: a dash for the empty one, or the digits of its blocks.
+#[tactic(auto, unfolding(crate::specs::Hex::list_word))]
 pub fn read_list(word: &[u8]) -> Option<HexBlocks<'_>>
     ensures { option_map blocks_in result ≡ list_word word.now }
 {
-    if same(word, b"-") {
-        Some(HexBlocks {
-            digits: &word[0..0],
-        })
-    } else if is_blocks(word) {
-        Some(HexBlocks { digits: word })
+    if word == b"-".as_slice() {
+        Some(HexBlocks { digits: &[] })
     } else {
-        None
+        is_blocks(word).then_some(HexBlocks { digits: word })
     }
 }

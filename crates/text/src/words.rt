@@ -1,14 +1,6 @@
-ghost use Rattle.std.specs.Prelude.{◌≡◌, ◌∷◌};
-ghost use Rattle.std.specs.Str.{bytes_eq};
+ghost use Rattle.std.specs.Prelude.{◌≡◌, ◌∷◌, ◌==◌, position};
 ghost use Rattle.text.specs.Words.{words};
 ghost use Rattle.text.specs.Views.{words_left};
-
-// Whether two texts are the same bytes.
-pub fn same(a: &[u8], b: &[u8]) -> bool
-    ensures { result ≡ bytes_eq a.now b.now }
-{
-    a == b
-}
 
 // The first word of a text, and what follows the space after it, if there is a space.
 #[derive(Clone, Copy)]
@@ -17,20 +9,25 @@ pub struct Cut<'a> {
     pub rest: Option<&'a [u8]>,
 }
 
+// Where the first space is.
+fn first_space(text: &[u8]) -> Option<usize>
+    ensures { result ≡ position (λ c. c == 32) text.now }
+{
+    text.iter().position(|c| *c == b' ')
+}
+
 // A text cut at its first space.
 pub fn first_word(text: &[u8]) -> Cut<'_>
     ensures { words text.now ≡ result.word.now ∷ words_left result.rest }
 {
-    for (i, c) in text.iter().enumerate() {
-        if *c == b' ' {
-            return Cut {
-                word: &text[0..i],
-                rest: Some(&text[i + 1..text.len()]),
-            };
-        }
-    }
-    Cut {
-        word: text,
-        rest: None,
+    match first_space(text) {
+        Some(i) => Cut {
+            word: &text[..i],
+            rest: Some(&text[i + 1..]),
+        },
+        None => Cut {
+            word: text,
+            rest: None,
+        },
     }
 }
