@@ -1,12 +1,11 @@
 -- Hex digits, and the blocks that they write. Assumes nothing.
-use Rattle.std.proofs.Common.{◌≡◌, ℕ, zero, suc, ◌+◌, ◌*◌, ◌^◌, ◌<◌, ◌≤◌, ◌&&◌, List, [], ◌∷◌, map, length, get_or, take, drop, is_some, sym, refl, ap, ◌∙◌, mul-le-mul, mul-le-mul_left, arith}
+use Rattle.std.proofs.Common.{◌≡◌, ℕ, zero, suc, ◌+◌, ◌*◌, ◌^◌, ◌<◌, ◌≤◌, List, [], ◌∷◌, map, length, get_or, take, drop, refl, ap, ◌∙◌, mul-le-mul, mul-le-mul_left, arith}
 use native.Mathlib.Nat.{pow-le-pow_right}
 use Rattle.std.proofs.lemmas.Int.Digits.{number_lt, number_push}
-use Rattle.std.proofs.lemmas.List.{length-map, take_more, map_push, drop-drop, length-take-le}
+use Rattle.std.proofs.lemmas.List.{length-map, take_more, map_push, length-take-le}
 use Rattle.std.proofs.lemmas.Bool.Decides.{nat_tests}
 use Rattle.std.specs.Int.Digits.{number_from_digits, number_from_digits_after, AllBelowBase}
-use Rattle.elements.specs.declared.values.Block.{Block}
-use Rattle.text.specs.Hex.{digit, digit_value, all_digits, digits_number, hex_block, hex_blocks}
+use Rattle.text.specs.Hex.{digit, digit_value, digits_number, hex_blocks}
 
 pub digit_lt : (c : ℕ) → digit_value c < 16
 unfolding digit

@@ -4,7 +4,7 @@ use Rattle.std.proofs.lemmas.List.{take-append-drop, drop_more}
 use Rattle.std.proofs.lemmas.List.Quantifiers.{position-Some}
 use Rattle.std.proofs.lemmas.Option.{none-some}
 use Rattle.std.specs.List.{position, position_or_len}
-use Rattle.std.proofs.lemmas.Bool.{cases_Bool, cond-true, cond_both, and_parts, not-true, eqb-true, eqb-false, eq-eqb, ne_eqb, ltb-false}
+use Rattle.std.proofs.lemmas.Bool.{cases_Bool, cond-true, cond_both, and_parts, not-true, eqb-true, eqb-false, ne_eqb, ltb-false}
 use Rattle.text.specs.Writing.{small_digit, small, Unspaced, AllUnspaced}
 use Rattle.text.specs.Words.{before_first, words, spaced}
 use Rattle.text.proofs.Hexes.{digit_no_space, small_space}
