@@ -35,9 +35,9 @@ pub record All {X Y Z R : Type 0} (f : X → Y → Z → R) (x : Option X) (y : 
   pub whole : f first second third ≡ r
 
 all_there : {X Y Z R : Type 0} (f : X → Y → Z → R) (x : Option X) (y : Option Y) (z : Option Z) (r : R) → with_all f x y z ≡ Some r → All f x y z r
-all_there f None y z r e = let n : ◌≡◌ {A = ℕ} 0 1 = cc in absurd (omega arith)
-all_there f (Some a) None z r e = let n : ◌≡◌ {A = ℕ} 0 1 = cc in absurd (omega arith)
-all_there f (Some a) (Some b) None r e = let n : ◌≡◌ {A = ℕ} 0 1 = cc in absurd (omega arith)
+all_there f None y z r e = absurd (cc)
+all_there f (Some a) None z r e = absurd (cc)
+all_there f (Some a) (Some b) None r e = absurd (cc)
 all_there f (Some a) (Some b) (Some c) r e =
     let w : f a b c ≡ r = cc in
     record { first = a; second = b; third = c; first_is = refl; second_is = refl; third_is = refl; whole = w }
@@ -47,14 +47,14 @@ abbrev listed : Three → List (List ℕ)
 listed w = w.first ∷ (w.second ∷ (w.third ∷ []))
 
 three_is : (ws : List (List ℕ)) (w : Three) → three ws ≡ Some w → ws ≡ listed w
-three_is [] w e = let n : ◌≡◌ {A = ℕ} 0 1 = cc in absurd (omega arith)
-three_is (a ∷ []) w e = let n : ◌≡◌ {A = ℕ} 0 1 = cc in absurd (omega arith)
-three_is (a ∷ (b ∷ [])) w e = let n : ◌≡◌ {A = ℕ} 0 1 = cc in absurd (omega arith)
+three_is [] w e = absurd (cc)
+three_is (a ∷ []) w e = absurd (cc)
+three_is (a ∷ (b ∷ [])) w e = absurd (cc)
 three_is (a ∷ (b ∷ (c ∷ []))) w e =
     let t : Three = record { first = a; second = b; third = c } in
     let s : t ≡ w = cc in
     ap listed s
-three_is (a ∷ (b ∷ (c ∷ (d ∷ ws)))) w e = let n : ◌≡◌ {A = ℕ} 0 1 = cc in absurd (omega arith)
+three_is (a ∷ (b ∷ (c ∷ (d ∷ ws)))) w e = absurd (cc)
 
 -- ---- what is understood is written so
 
@@ -93,7 +93,7 @@ answer_text Speck w k e = fields_text Speck of_speck (block_text small_digit) bl
 answer_text Product w k e = fields_text Product of_product (block_text small_digit) block_word w k block_word_text (λ a b c. (refl, refl, tt)) e
 answer_text Horner w k e = fields_text Horner of_horner (list_text small_digit) list_word w k list_word_text (λ a b c. (refl, refl, tt)) e
 answer_text Brw w k e = fields_text Brw of_brw (list_text small_digit) list_word w k list_word_text (λ a b c. (refl, refl, tt)) e
-answer_text Sector w k e = let n : ◌≡◌ {A = ℕ} 0 1 = cc in absurd (omega arith)
+answer_text Sector w k e = absurd (cc)
 
 -- words that say the answer k
 pub record Says (k : Known) (ws : List (List ℕ)) : Type 0 where
@@ -104,8 +104,8 @@ pub record Says (k : Known) (ws : List (List ℕ)) : Type 0 where
 
 said_by : (v : List ℕ) (ws : List (List ℕ)) (k : Known) (o : Option Kind) (t : Option Three)
     → kind_named v ≡ o → three ws ≡ t → answer_if o t ≡ Some k → Says k (v ∷ ws)
-said_by v ws k None t p q e = let n : ◌≡◌ {A = ℕ} 0 1 = cc in absurd (omega arith)
-said_by v ws k (Some j) None p q e = let n : ◌≡◌ {A = ℕ} 0 1 = cc in absurd (omega arith)
+said_by v ws k None t p q e = absurd (cc)
+said_by v ws k (Some j) None p q e = absurd (cc)
 said_by v ws k (Some j) (Some w) p q e =
     let a = answer_text j w k e in
     record {
@@ -116,7 +116,7 @@ said_by v ws k (Some j) (Some w) p q e =
     }
 
 kind_says : (ws : List (List ℕ)) (k : Known) → by_kind ws ≡ Some k → Says k ws
-kind_says [] k e = let n : ◌≡◌ {A = ℕ} 0 1 = cc in absurd (omega arith)
+kind_says [] k e = absurd (cc)
 kind_says (v ∷ ws) k e = said_by v ws k (kind_named v) (three ws) refl refl e
 
 -- ---- sectors
@@ -127,37 +127,37 @@ listed_six w = w.cipher ∷ (w.hash ∷ (w.key ∷ listed w.fields))
 
 six_by : (a b c : List ℕ) (ws : List (List ℕ)) (o : Option Three) (w : Six)
     → three ws ≡ o → option_map (λ (t : Three). let s : Six = record { cipher = a; hash = b; key = c; fields = t } in s) o ≡ Some w → a ∷ (b ∷ (c ∷ ws)) ≡ listed_six w
-six_by a b c ws None w p e = let n : ◌≡◌ {A = ℕ} 0 1 = cc in absurd (omega arith)
+six_by a b c ws None w p e = absurd (cc)
 six_by a b c ws (Some t) w p e =
     let s : Six = record { cipher = a; hash = b; key = c; fields = t } in
     let q : s ≡ w = cc in
     ap (λ l. a ∷ (b ∷ (c ∷ l))) (three_is ws t p) ∙ ap listed_six q
 
 six_is : (ws : List (List ℕ)) (w : Six) → six ws ≡ Some w → ws ≡ listed_six w
-six_is [] w e = let n : ◌≡◌ {A = ℕ} 0 1 = cc in absurd (omega arith)
-six_is (a ∷ []) w e = let n : ◌≡◌ {A = ℕ} 0 1 = cc in absurd (omega arith)
-six_is (a ∷ (b ∷ [])) w e = let n : ◌≡◌ {A = ℕ} 0 1 = cc in absurd (omega arith)
+six_is [] w e = absurd (cc)
+six_is (a ∷ []) w e = absurd (cc)
+six_is (a ∷ (b ∷ [])) w e = absurd (cc)
 six_is (a ∷ (b ∷ (c ∷ ws))) w e = six_by a b c ws (three ws) w refl e
 
 -- the words of ciphers and hashes
 
 cipher_is : (v : List ℕ) (c : Cipher) (o : Option Kind) → kind_named v ≡ o → cipher_by o ≡ Some c → v ≡ kind_word (cipher_kind c)
-cipher_is v c None p e = let n : ◌≡◌ {A = ℕ} 0 1 = cc in absurd (omega arith)
+cipher_is v c None p e = absurd (cc)
 cipher_is v c (Some Aes) p e = let s : AesCipher ≡ c = cc in named_is v Aes p ∙ ap (λ x. kind_word (cipher_kind x)) s
 cipher_is v c (Some Speck) p e = let s : SpeckCipher ≡ c = cc in named_is v Speck p ∙ ap (λ x. kind_word (cipher_kind x)) s
-cipher_is v c (Some Product) p e = let n : ◌≡◌ {A = ℕ} 0 1 = cc in absurd (omega arith)
-cipher_is v c (Some Horner) p e = let n : ◌≡◌ {A = ℕ} 0 1 = cc in absurd (omega arith)
-cipher_is v c (Some Brw) p e = let n : ◌≡◌ {A = ℕ} 0 1 = cc in absurd (omega arith)
-cipher_is v c (Some Sector) p e = let n : ◌≡◌ {A = ℕ} 0 1 = cc in absurd (omega arith)
+cipher_is v c (Some Product) p e = absurd (cc)
+cipher_is v c (Some Horner) p e = absurd (cc)
+cipher_is v c (Some Brw) p e = absurd (cc)
+cipher_is v c (Some Sector) p e = absurd (cc)
 
 hash_is : (v : List ℕ) (g : AnyHash) (o : Option Kind) → kind_named v ≡ o → hash_by o ≡ Some g → v ≡ kind_word (hash_kind g)
-hash_is v g None p e = let n : ◌≡◌ {A = ℕ} 0 1 = cc in absurd (omega arith)
-hash_is v g (Some Aes) p e = let n : ◌≡◌ {A = ℕ} 0 1 = cc in absurd (omega arith)
-hash_is v g (Some Speck) p e = let n : ◌≡◌ {A = ℕ} 0 1 = cc in absurd (omega arith)
-hash_is v g (Some Product) p e = let n : ◌≡◌ {A = ℕ} 0 1 = cc in absurd (omega arith)
+hash_is v g None p e = absurd (cc)
+hash_is v g (Some Aes) p e = absurd (cc)
+hash_is v g (Some Speck) p e = absurd (cc)
+hash_is v g (Some Product) p e = absurd (cc)
 hash_is v g (Some Horner) p e = let s : HornerHash ≡ g = cc in named_is v Horner p ∙ ap (λ x. kind_word (hash_kind x)) s
 hash_is v g (Some Brw) p e = let s : BrwHash ≡ g = cc in named_is v Brw p ∙ ap (λ x. kind_word (hash_kind x)) s
-hash_is v g (Some Sector) p e = let n : ◌≡◌ {A = ℕ} 0 1 = cc in absurd (omega arith)
+hash_is v g (Some Sector) p e = absurd (cc)
 
 cipher_read : (c : Cipher) → cipher_by (kind_named (kind_word (cipher_kind c))) ≡ Some c
 cipher_read AesCipher = ap cipher_by (named_word Aes)
@@ -175,7 +175,7 @@ pub record There {X R : Type 0} (o : Option X) (f : X → Option R) (r : R) : Ty
   pub rest : f value ≡ Some r
 
 there : {X R : Type 0} (o : Option X) (f : X → Option R) (r : R) → then o f ≡ Some r → There o f r
-there None f r e = let n : ◌≡◌ {A = ℕ} 0 1 = cc in absurd (omega arith)
+there None f r e = absurd (cc)
 there (Some x) f r e = record { value = x; is = refl; rest = e }
 
 sector_says : (w : Six) (k : Known) → sector_of w ≡ Some k → Says k (listed_six w)
@@ -204,7 +204,7 @@ sector_says w k e =
     }))
     (λ t.
     let f : None ≡ Some k = sym (cond-false (sector_texts p.value q.value) (Some j) None t) ∙ q.rest in
-    let z : ◌≡◌ {A = ℕ} 0 1 = cc in absurd (omega arith))
+    absurd (cc))
     (cases_Bool (sector_texts p.value q.value))
 
 says_by : (ws : List (List ℕ)) (k : Known) (o : Option Six) → six ws ≡ o → sector_or o (by_kind ws) ≡ Some k → Says k ws
@@ -215,7 +215,7 @@ known_says : (ws : List (List ℕ)) (k : Known) → known ws ≡ Some k → Says
 known_says ws k e = says_by ws k (six ws) refl e
 
 reading_is : (o : Option Known) (k : Known) → reading o ≡ understood k → o ≡ Some k
-reading_is None k e = let n : ◌≡◌ {A = ℕ} 0 1 = cc in absurd (omega arith)
+reading_is None k e = absurd (cc)
 reading_is (Some j) k e = let s : j ≡ k = cc in ap Some s
 
 pub only : (line : List ℕ) (k : Known) → read line ≡ understood k → Written k line
@@ -224,7 +224,7 @@ only line k e =
     ⊎_elim
     (λ t.
     let f : passed ≡ understood k = sym (cond-true (remark line) passed found t) ∙ e in
-    let n : ◌≡◌ {A = ℕ} 0 1 = cc in absurd (omega arith))
+    absurd (cc))
     (λ t.
     let s = known_says (words line) k (reading_is (known (words line)) k (sym (cond-false (remark line) passed found t) ∙ e)) in
     record { fields = s.fields; whole = sym (spaced_words line) ∙ ap spaced s.whole; digits = s.digits; bounded = s.bounded })
@@ -295,10 +295,10 @@ sector_known : (c : Cipher) (g : AnyHash) (key : Block) (n : ℕ) (p q : List Bl
     → Bounded (of_sector c g key n p q)
     → map (map small) fs ≡ field_words small_digit (of_sector c g key n p q)
     → known (opening (of_sector c g key n p q) ++ fs) ≡ Some (of_sector c g key n p q)
-sector_known c g key n p q [] h d = let z : ◌≡◌ {A = ℕ} 0 1 = cc in absurd (omega arith)
-sector_known c g key n p q (x ∷ []) h d = let z : ◌≡◌ {A = ℕ} 0 1 = cc in absurd (omega arith)
-sector_known c g key n p q (x ∷ (y ∷ [])) h d = let z : ◌≡◌ {A = ℕ} 0 1 = cc in absurd (omega arith)
-sector_known c g key n p q (x ∷ (y ∷ (s ∷ []))) h d = let z : ◌≡◌ {A = ℕ} 0 1 = cc in absurd (omega arith)
+sector_known c g key n p q [] h d = absurd (cc)
+sector_known c g key n p q (x ∷ []) h d = absurd (cc)
+sector_known c g key n p q (x ∷ (y ∷ [])) h d = absurd (cc)
+sector_known c g key n p q (x ∷ (y ∷ (s ∷ []))) h d = absurd (cc)
 sector_known c g key n p q (x ∷ (y ∷ (s ∷ (t ∷ [])))) h d =
     let dx : map small x ≡ block_text small_digit key = cc in
     let dy : map small y ≡ decimal n = cc in
@@ -313,7 +313,7 @@ sector_known c g key n p q (x ∷ (y ∷ (s ∷ (t ∷ [])))) h d =
     (sym (list_word_small s) ∙ ap list_word ds ∙ read_list_text p)
     (sym (list_word_small t) ∙ ap list_word dt ∙ read_list_text q)
     ∙ cond-true (sector_texts p q) (Some (of_sector c g key n p q)) None h.1
-sector_known c g key n p q (x ∷ (y ∷ (s ∷ (t ∷ (r ∷ fs))))) h d = let z : ◌≡◌ {A = ℕ} 0 1 = cc in absurd (omega arith)
+sector_known c g key n p q (x ∷ (y ∷ (s ∷ (t ∷ (r ∷ fs))))) h d = absurd (cc)
 
 fields_known : (k : Known) (fs : List (List ℕ)) → Bounded k → map (map small) fs ≡ field_words small_digit k → known (opening k ++ fs) ≡ Some k
 fields_known (of_aes a b c) fs h d = kind_known Aes (of_aes a b c) fs refl (with_texts of_aes block_word (block_text small_digit) read_block_text a b c) d

@@ -4,20 +4,20 @@ use Rattle.std.proofs.lemmas.Slice.Eq.{bytes_eq-Decides}
 use Rattle.std.proofs.lemmas.List.{drop_more}
 use Rattle.std.proofs.lemmas.Bool.{cases_Bool, cond-true, cond-false}
 use Rattle.std.specs.Str.{bytes_eq}
-use Rattle.answers.specs.Kinds.{kind_word, first_named, kind_named}
+use Rattle.std.specs.List.{find}
+use Rattle.answers.specs.Kinds.{kind_word, kind_named}
 use Rattle.text.specs.Writing.{Unspaced}
 use Rattle.text.proofs.Spaces.{unspaced_from}
 use Rattle.answers.specs.declared.kinds.Kind.{Kind}
 use Rattle.answers.specs.declared.kinds.Kind.TheVariants.{Aes, Speck, Product, Horner, Brw, Sector}
 
 -- the kind that is found has the word
-pub found_word : (ks : List Kind) (w : List ℕ) (k : Kind) → first_named ks w ≡ Some k → w ≡ kind_word k
-found_word [] w k e = let z : ◌≡◌ {A = ℕ} 0 1 = cc in absurd (omega arith)
+found_word : (ks : List Kind) (w : List ℕ) (k : Kind) → find (λ j. bytes_eq w (kind_word j)) ks ≡ Some k → w ≡ kind_word k
+found_word [] w k e = cc
 found_word (j ∷ ks) w k e =
     ⊎_elim
-    (λ t. let f : Some j ≡ Some k = sym (cond-true (bytes_eq w (kind_word j)) (Some j) (first_named ks w) t) ∙ e in
-    let g : j ≡ k = cc in (bytes_eq-Decides w (kind_word j)).0 t ∙ ap kind_word g)
-    (λ t. found_word ks w k (sym (cond-false (bytes_eq w (kind_word j)) (Some j) (first_named ks w) t) ∙ e))
+    (λ t. let f : Some j ≡ Some k = rw t at e in let g : j ≡ k = cc in (bytes_eq-Decides w (kind_word j)).0 t ∙ ap kind_word g)
+    (λ t. found_word ks w k (rw t at e))
     (cases_Bool (bytes_eq w (kind_word j)))
 
 -- each kind is found by its word
@@ -36,11 +36,6 @@ named_is w k e = found_word (Aes ∷ (Speck ∷ (Product ∷ (Horner ∷ (Brw �
 
 pub names : (w : List ℕ) (r : Option Kind) → r ≡ kind_named w → (k : Kind) → (r ≡ Some k → w ≡ kind_word k) × (w ≡ kind_word k → r ≡ Some k)
 names w r v k = ((λ e. named_is w k (sym v ∙ e)), (λ e. v ∙ ap kind_named e ∙ named_word k))
-
--- one kind on, by the test of its word
-pub named_more : (ks : List Kind) (i : ℕ) (w : List ℕ) (d : Kind) (t : Bool) → i < length ks → t ≡ bytes_eq w (kind_word (get_or ks i d)) → first_named (drop i ks) w ≡ cond t (Some (get_or ks i d)) (first_named (drop (i + 1) ks) w)
-named_more ks i w d t h e =
-    ap (λ l. first_named l w) (drop_more ks i d h) ∙ ap (λ b. cond b (Some (get_or ks i d)) (first_named (drop (i + 1) ks) w)) (sym e)
 
 -- no space in the word of a kind
 pub unspaced_kind : (k : Kind) → Unspaced (kind_word k)

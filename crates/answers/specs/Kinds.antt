@@ -4,7 +4,10 @@ use Rattle.ciphers.specs.declared.choice.Cipher.{Cipher}
 use Rattle.ciphers.specs.declared.choice.Cipher.TheVariants.{Aes as AesCipher, Speck as SpeckCipher}
 use Rattle.hashing.specs.declared.choice.AnyHash.{AnyHash}
 use Rattle.hashing.specs.declared.choice.AnyHash.TheVariants.{Horner as HornerHash, Brw as BrwHash}
+use Rattle.std.specs.List.{find}
 use Rattle.std.specs.Str.{bytes_eq}
+use Rattle.answers.specs.declared.answer.Polynomial.{Polynomial}
+use Rattle.answers.specs.declared.answer.Polynomial.TheVariants.{Horner as PlainHorner, Brw as PlainBrw}
 use Rattle.answers.specs.declared.kinds.Kind.{Kind}
 use Rattle.answers.specs.declared.kinds.Kind.TheVariants.{Aes, Speck, Product, Horner, Brw, Sector}
 
@@ -17,14 +20,9 @@ kind_word Horner = codes "horner"
 kind_word Brw = codes "brw"
 kind_word Sector = codes "sector"
 
--- the first of some kinds with this word
-abbrev pub first_named : List Kind → List ℕ → Option Kind
-first_named [] w = None
-first_named (k ∷ ks) w = cond (bytes_eq w (kind_word k)) (Some k) (first_named ks w)
-
 -- the kind that a word names
 unfoldable pub kind_named : List ℕ → Option Kind
-kind_named w = first_named (Aes ∷ (Speck ∷ (Product ∷ (Horner ∷ (Brw ∷ (Sector ∷ [])))))) w
+kind_named w = find (λ k. bytes_eq w (kind_word k)) (Aes ∷ (Speck ∷ (Product ∷ (Horner ∷ (Brw ∷ (Sector ∷ []))))))
 
 -- ---- the words of a cipher and of a hash
 
@@ -37,6 +35,11 @@ cipher_kind SpeckCipher = Speck
 abbrev pub hash_kind : AnyHash → Kind
 hash_kind HornerHash = Horner
 hash_kind BrwHash = Brw
+
+-- the kind of a polynomial's values
+abbrev pub polynomial_kind : Polynomial → Kind
+polynomial_kind PlainHorner = Horner
+polynomial_kind PlainBrw = Brw
 
 -- the cipher with the word of a kind
 abbrev pub cipher_by : Option Kind → Option Cipher

@@ -4,42 +4,42 @@ ghost use Rattle.answers.specs.Views.{known_of};
 
 use crate::kinds::Kind;
 use ciphers::choice::Cipher;
+use elements::values::Block;
 use hashing::choice::AnyHash;
 use text::hex::HexBlocks;
 
-// A known answer: what to work out, and the result that it must have. Keys and blocks are the bytes that they lie as,
-// and a list, as a sector's text is, stays where its digits lie.
-#[derive(Clone, Copy)]
+// The polynomials that known answers have values of. Horner's is the bare one, with no 1 before the list.
+#[derive(Clone, Copy, Debug, PartialEq, Eq)]
+pub enum Polynomial {
+    Horner,
+    Brw,
+}
+
+// A known answer: what to work out, and the result that it must have. A list, as a sector's text is, stays where its
+// digits lie.
+#[derive(Clone, Copy, Debug, PartialEq, Eq)]
 pub enum Answer<'a> {
-    Aes {
-        key: [u8; 16],
-        plain: [u8; 16],
-        enciphered: [u8; 16],
-    },
-    Speck {
-        key: [u8; 16],
-        plain: [u8; 16],
-        enciphered: [u8; 16],
+    Block {
+        cipher: Cipher,
+        key: Block,
+        plain: Block,
+        enciphered: Block,
     },
     Product {
-        a: [u8; 16],
-        b: [u8; 16],
-        result: [u8; 16],
+        a: Block,
+        b: Block,
+        result: Block,
     },
-    Horner {
-        key: [u8; 16],
+    Polynomial {
+        polynomial: Polynomial,
+        key: Block,
         list: HexBlocks<'a>,
-        result: [u8; 16],
-    },
-    Brw {
-        key: [u8; 16],
-        list: HexBlocks<'a>,
-        result: [u8; 16],
+        result: Block,
     },
     Sector {
         cipher: Cipher,
         hash: AnyHash,
-        key: [u8; 16],
+        key: Block,
         number: u64,
         plain: HexBlocks<'a>,
         enciphered: HexBlocks<'a>,
@@ -52,20 +52,14 @@ impl Answer<'_> {
         ensures { result ≡ kind_of (known_of self.now) }
     {
         match *self {
-            Answer::Aes { .. } => Kind::Aes,
-            Answer::Speck { .. } => Kind::Speck,
+            Answer::Block { cipher, .. } => Kind::from(cipher),
             Answer::Product { .. } => Kind::Product,
-            Answer::Horner { .. } => Kind::Horner,
-            Answer::Brw { .. } => Kind::Brw,
+            Answer::Polynomial { polynomial, .. } => Kind::from(polynomial),
             Answer::Sector { .. } => Kind::Sector,
         }
     }
 }
 
-// What a line says: nothing, if it is empty or a remark, an answer, or what nobody can read.
-#[derive(Clone, Copy)]
-pub enum Line<'a> {
-    Passed,
-    Answer(Answer<'a>),
-    NotUnderstood,
-}
+// A line that nobody can read.
+#[derive(Clone, Copy, Debug, PartialEq, Eq)]
+pub struct NotUnderstood;

@@ -1,13 +1,16 @@
 ghost use Rattle.std.specs.Prelude.{◌≡◌, ℕ, List, [], ◌∷◌, ◌++◌, ◌≢◌};
 ghost use Rattle.std.specs.Option.{option_map};
-ghost use Rattle.answers.specs.Reading.{Known, understood, read, remark, three, six, answer_of, by_kind, sector_texts, sector_of, known};
+ghost use Rattle.answers.specs.Reading.{Known, understood, read, remark, three, six, with_all, answer_of, by_kind, sector_texts, sector_of, known};
 ghost use Rattle.answers.specs.Rendering.{Written};
-ghost use Rattle.answers.specs.Views.{three_of, six_of, known_of, said};
+ghost use Rattle.answers.specs.Views.{three_of, six_of, of_cipher, of_polynomial, known_of, said};
+ghost use Rattle.text.specs.Hex.{block_word, list_word};
 ghost use Rattle.text.specs.Views.{words_left, blocks_in};
 ghost use Rattle.text.specs.Words.{words};
 
-use crate::answer::{Answer, Line};
-use crate::kinds::{Kind, read_cipher, read_hash};
+use crate::answer::{Answer, NotUnderstood, Polynomial};
+use crate::kinds::Kind;
+use ciphers::choice::Cipher;
+use hashing::choice::AnyHash;
 use polynomials::lists::Elements;
 use text::hex::{HexBlocks, read_block, read_list};
 use text::numbers::read_number;
@@ -28,48 +31,51 @@ fn three_words(text: Option<&[u8]>) -> Option<Three<'_>>
     let first = first_word(text?);
     let second = first_word(first.rest?);
     let third = first_word(second.rest?);
-    match third.rest {
-        Some(_) => None,
-        None => Some(Three {
-            first: first.word,
-            second: second.word,
-            third: third.word,
-        }),
-    }
+    third.rest.is_none().then_some(Three {
+        first: first.word,
+        second: second.word,
+        third: third.word,
+    })
+}
+
+// The answer of a cipher with these fields.
+fn read_enciphered<'a>(cipher: Cipher, words: Three<'a>) -> Option<Answer<'a>>
+    ensures { option_map known_of result ≡ with_all (of_cipher cipher) (block_word words.entry.first.now) (block_word words.entry.second.now) (block_word words.entry.third.now) }
+{
+    Some(Answer::Block {
+        cipher,
+        key: read_block(words.first)?,
+        plain: read_block(words.second)?,
+        enciphered: read_block(words.third)?,
+    })
+}
+
+// The answer of a polynomial with these fields.
+fn read_value<'a>(polynomial: Polynomial, words: Three<'a>) -> Option<Answer<'a>>
+    ensures { option_map known_of result ≡ with_all (of_polynomial polynomial) (block_word words.entry.first.now) (list_word words.entry.second.now) (block_word words.entry.third.now) }
+{
+    Some(Answer::Polynomial {
+        polynomial,
+        key: read_block(words.first)?,
+        list: read_list(words.second)?,
+        result: read_block(words.third)?,
+    })
 }
 
 // The answer of a kind with these fields.
 fn read_fields<'a>(kind: Kind, words: Three<'a>) -> Option<Answer<'a>>
     ensures { option_map known_of result ≡ answer_of kind (three_of words.entry) }
 {
-    let first = read_block(words.first)?;
-    let third = read_block(words.third)?;
     match kind {
-        Kind::Aes => Some(Answer::Aes {
-            key: first,
-            plain: read_block(words.second)?,
-            enciphered: third,
-        }),
-        Kind::Speck => Some(Answer::Speck {
-            key: first,
-            plain: read_block(words.second)?,
-            enciphered: third,
-        }),
+        Kind::Aes => read_enciphered(Cipher::Aes, words),
+        Kind::Speck => read_enciphered(Cipher::Speck, words),
         Kind::Product => Some(Answer::Product {
-            a: first,
+            a: read_block(words.first)?,
             b: read_block(words.second)?,
-            result: third,
+            result: read_block(words.third)?,
         }),
-        Kind::Horner => Some(Answer::Horner {
-            key: first,
-            list: read_list(words.second)?,
-            result: third,
-        }),
-        Kind::Brw => Some(Answer::Brw {
-            key: first,
-            list: read_list(words.second)?,
-            result: third,
-        }),
+        Kind::Horner => read_value(Polynomial::Horner, words),
+        Kind::Brw => read_value(Polynomial::Brw, words),
         Kind::Sector => None,
     }
 }
@@ -113,15 +119,15 @@ pub fn are_sectors(plain: &HexBlocks, enciphered: &HexBlocks) -> bool
     ensures { result ≡ sector_texts (blocks_in plain.now) (blocks_in enciphered.now) }
 {
     let n = plain.len();
-    4 <= n && n <= 256 && enciphered.len() == n
+    (4..=256).contains(&n) && enciphered.len() == n
 }
 
 // The sector's answer with these words.
 fn read_sector<'a>(words: Six<'a>) -> Option<Answer<'a>>
     ensures { option_map known_of result ≡ sector_of (six_of words.entry) }
 {
-    let cipher = read_cipher(words.cipher)?;
-    let hash = read_hash(words.hash)?;
+    let cipher = Cipher::try_from(Kind::named(words.cipher)?).ok()?;
+    let hash = AnyHash::try_from(Kind::named(words.hash)?).ok()?;
     let key = read_block(words.key)?;
     let number = read_number(words.fields.first)?;
     let plain = read_list(words.fields.second)?;
@@ -153,21 +159,18 @@ fn read_words(line: &[u8]) -> Option<Answer<'_>>
 fn is_remark(line: &[u8]) -> bool
     ensures { result ≡ remark line.now }
 {
-    line.len() == 0 || line[0] == b'#'
+    matches!(line, [] | [b'#', ..])
 }
 
-// What a line says. The line comes without the LF that ends it.
-pub fn read_line(line: &[u8]) -> Line<'_>
+// What a line says: nothing, if it is empty or a remark, or else an answer. The line comes without the LF that ends it.
+pub fn read_line(line: &[u8]) -> Result<Option<Answer<'_>>, NotUnderstood>
     ensures value { said result ≡ read line.now }
     ensures written { (k : Known) → (said result ≡ understood k → Written k line.now) × (Written k line.now → said result ≡ understood k) }
 {
     if is_remark(line) {
-        return Line::Passed;
+        return Ok(None);
     }
-    match read_words(line) {
-        Some(answer) => Line::Answer(answer),
-        None => Line::NotUnderstood,
-    }
+    read_words(line).map(Some).ok_or(NotUnderstood)
 }
 
 // A line without the LF that ends it. The last line of an input may have none.
@@ -175,8 +178,5 @@ pub fn without_end(line: &[u8]) -> &[u8]
     ensures ended { (t : List ℕ) → line.now ≡ t ++ (10 ∷ []) → result.now ≡ t }
     ensures open_ended { ((t : List ℕ) → line.now ≢ t ++ (10 ∷ [])) → result.now ≡ line.now }
 {
-    match line.strip_suffix(b"\n") {
-        Some(front) => front,
-        None => line,
-    }
+    line.strip_suffix(b"\n").unwrap_or(line)
 }

@@ -1,16 +1,10 @@
 -- The code's values as the definitions'. Assumes nothing.
 use Rattle.std.specs.Prelude.{ℕ, List, [], Some, None, Option}
 use Rattle.std.specs.Borrow.{Bor}
-use Rattle.std.specs.Int.Digits.{number_from_digits}
-use Rattle.elements.specs.Values.{block}
 use Rattle.elements.specs.declared.values.Block.{Block}
 use Rattle.text.specs.Hex.{hex_blocks_of}
 use Rattle.text.specs.Words.{words}
 use Rattle.text.specs.declared.hex.HexBlocks.{HexBlocks}
-
--- the block that lies as these bytes
-abbrev pub block_in : List ℕ → Block
-block_in bytes = block (number_from_digits 256 bytes)
 
 -- the blocks that lie as digits
 abbrev pub blocks_in : HexBlocks → List Block

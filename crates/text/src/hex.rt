@@ -1,7 +1,7 @@
 ghost use Rattle.std.specs.Prelude.{◌≡◌, ◌≤◌, length};
 ghost use Rattle.std.specs.Option.{option_map};
 ghost use Rattle.text.specs.Hex.{digit as digit_of, all_digits, digits_number, hex_block as block_of_digits, hex_blocks_of, one_block, some_blocks, block_word, list_word};
-ghost use Rattle.text.specs.Views.{block_in, blocks_in};
+ghost use Rattle.text.specs.Views.{blocks_in};
 
 use elements::values::Block;
 use polynomials::lists::Elements;
@@ -44,7 +44,7 @@ fn hex_block(digits: &[u8]) -> Block
 
 // A list of blocks that lies as hex digits, 32 to a block, and is read where it lies. What is left over at the end is
 // no part of the list, and what is no digit counts as 0.
-#[derive(Clone, Copy)]
+#[derive(Clone, Copy, Debug, PartialEq, Eq)]
 pub struct HexBlocks<'a> {
     pub digits: &'a [u8],
 }
@@ -69,13 +69,13 @@ fn is_blocks(word: &[u8]) -> bool
     !word.is_empty() && word.len() % 32 == 0 && is_hex(word)
 }
 
-// The block that a word writes, as the bytes that it lies as, if the word is 32 hex digits.
+// The block that a word writes, if the word is 32 hex digits.
 #[tactic(auto, unfolding(crate::specs::Hex::block_word))]
-pub fn read_block(word: &[u8]) -> Option<[u8; 16]>
-    ensures { option_map block_in result ≡ block_word word.now }
+pub fn read_block(word: &[u8]) -> Option<Block>
+    ensures { result ≡ block_word word.now }
 {
     let digits = word.as_array::<32>()?;
-    is_hex(digits).then_some(hex_block(digits).to_bytes())
+    is_hex(digits).then_some(hex_block(digits))
 }
 
 // The list that a word writes: a dash for the empty one, or the digits of its blocks.

@@ -3,7 +3,7 @@ ghost use Rattle.text.specs.Words.{words};
 ghost use Rattle.text.specs.Views.{words_left};
 
 // The first word of a text, and what follows the space after it, if there is a space.
-#[derive(Clone, Copy)]
+#[derive(Clone, Copy, Debug, PartialEq, Eq)]
 pub struct Cut<'a> {
     pub word: &'a [u8],
     pub rest: Option<&'a [u8]>,

@@ -1,5 +1,9 @@
-use Rattle.std.proofs.Common.{◌≡◌, ℕ, List, [], ◌∷◌, None, sym, refl, ap, ◌∙◌}
+use Rattle.std.proofs.Common.{◌≡◌, ℕ, List, [], ◌∷◌, Bool, true, false, not, Bor, is_some, Some, None, Option, sym, refl, ap, ◌∙◌}
+use Rattle.std.specs.Bool.{then_some}
+use Rattle.std.specs.Option.{option_map}
 use Rattle.answers.specs.Reading.{three}
+use Rattle.answers.specs.Views.{three_of}
+use Rattle.answers.specs.declared.reading.Three.{Three}
 use Rattle.text.specs.Views.{words_left}
 use Rattle.text.specs.Words.{words}
 use Rattle.text.proofs.Spaces.{after, words_start}
@@ -10,16 +14,22 @@ fourth : (a b c : List ℕ) (ws : List (List ℕ)) → None ≡ three (a ∷ (b 
 fourth a b c [] = refl
 fourth a b c (w ∷ ws) = refl
 
-not_three : (a b c t : List ℕ) → None ≡ three (a ∷ (b ∷ (c ∷ words t)))
-not_three a b c t = fourth a b c (words t) ∙ ap (λ ws. three (a ∷ (b ∷ (c ∷ ws)))) (sym (words_start t))
+-- the three words, by what is left after them
+left : (t : Three) (o : Option (Bor (List ℕ))) (none : Bool) → is_some o ≡ not none → option_map three_of (then_some none t) ≡ three (t.first.now ∷ (t.second.now ∷ (t.third.now ∷ words_left o)))
+left t None true e = refl
+left t None false e = cc
+left t (Some r) true e = cc
+left t (Some r) false e =
+    fourth t.first.now t.second.now t.third.now (words r.now)
+    ∙ ap (λ ws. three (t.first.now ∷ (t.second.now ∷ (t.third.now ∷ ws)))) (sym (words_start r.now))
 
-pub returns-in-Some : goal.returns-in-Some
-returns-in-Some c =
-    let first = c.first_word-first.result.word.now in
-    let second = c.first_word-second.result.word.now in
-    let third = c.first_word-third.result.word.now in
+pub returns : goal.returns
+returns c =
+    let first = c.first_word-first.result.word in
+    let second = c.first_word-second.result.word in
+    let third = c.first_word-third.result in
+    let t : Three = record { first = first; second = second; third = third.word } in
     let all = ap words_left c.in_ok-text.was ∙ c.first_word-first.ensures
-    ∙ ap (λ o. first ∷ words_left o) c.in_ok-first.was ∙ ap (λ ws. first ∷ ws) c.first_word-second.ensures
-    ∙ ap (λ o. first ∷ (second ∷ words_left o)) c.in_ok-second.was ∙ ap (λ ws. first ∷ (second ∷ ws)) c.first_word-third.ensures
-    ∙ ap (λ o. first ∷ (second ∷ (third ∷ words_left o))) c.in-Some.is in
-    not_three first second third c.in-Some.field-0.now ∙ sym (ap three all)
+    ∙ ap (λ o. first.now ∷ words_left o) c.in_ok-first.was ∙ ap (λ ws. first.now ∷ ws) c.first_word-second.ensures
+    ∙ ap (λ o. first.now ∷ (second.now ∷ words_left o)) c.in_ok-second.was ∙ ap (λ ws. first.now ∷ (second.now ∷ ws)) c.first_word-third.ensures in
+    ap (option_map three_of) c.then_some.ensures ∙ left t third.rest c.is_none.result c.is_none.ensures ∙ sym (ap three all)
