@@ -1,5 +1,5 @@
 -- The words that name the kinds of answers. Assumes nothing.
-use Rattle.std.specs.Prelude.{ℕ, cond, List, [], ◌∷◌, Some, None, codes, Option}
+use Rattle.std.specs.Prelude.{ℕ, List, [], ◌∷◌, Some, None, codes, Option}
 use Rattle.ciphers.specs.declared.choice.Cipher.{Cipher}
 use Rattle.ciphers.specs.declared.choice.Cipher.TheVariants.{Aes as AesCipher, Speck as SpeckCipher}
 use Rattle.hashing.specs.declared.choice.AnyHash.{AnyHash}
