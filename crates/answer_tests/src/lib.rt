@@ -2,31 +2,33 @@
 
 mod sectors;
 
+#[cfg(test)]
+fn is_read(line: &[u8]) -> bool {
+    verdicts::verdict::judge(line) != Some(verdicts::verdict::Verdict::NotUnderstood)
+}
+
 // What lines are understood, and what is said of them.
 #[cfg(test)]
 mod tests {
+    use crate::is_read;
     use answers::kinds::Kind;
     use verdicts::verdict::{Verdict, judge};
 
     const PRODUCT: &[u8] =
         b"product 00000000000000000000000000000003 00000000000000000000000000000003 00000000000000000000000000000005";
 
-    fn is_read(line: &[u8]) -> bool {
-        !matches!(judge(line), Some(Verdict::NotUnderstood))
-    }
-
     #[test]
     fn agrees_or_differs(rt: HostRuntime) {
-        assert!(rt; matches!(judge(PRODUCT), Some(Verdict::Agrees(Kind::Product))));
+        assert_eq!(rt; judge(PRODUCT), Some(Verdict::Agrees(Kind::Product)));
         let wrong =
             b"product 00000000000000000000000000000003 00000000000000000000000000000003 00000000000000000000000000000009";
-        assert!(rt; matches!(judge(wrong), Some(Verdict::Differs(Kind::Product))));
+        assert_eq!(rt; judge(wrong), Some(Verdict::Differs(Kind::Product)));
     }
 
     #[test]
     fn passes_over(rt: HostRuntime) {
-        assert!(rt; matches!(judge(b""), None));
-        assert!(rt; matches!(judge(b"# product"), None));
+        assert_eq!(rt; judge(b""), None);
+        assert_eq!(rt; judge(b"# product"), None);
     }
 
     #[test]
@@ -35,8 +37,8 @@ mod tests {
             b"aes 000102030405060708090a0b0c0d0e0f 00112233445566778899aabbccddeeff 69c4e0d86a7b0430d8cdb78070b4c55a";
         let mixed =
             b"aes 000102030405060708090A0b0C0d0E0f 00112233445566778899aABBcCDDeEFF 69C4e0D86a7B0430d8CDB78070b4C55A";
-        assert!(rt; matches!(judge(small), Some(Verdict::Agrees(Kind::Aes))));
-        assert!(rt; matches!(judge(mixed), Some(Verdict::Agrees(Kind::Aes))));
+        assert_eq!(rt; judge(small), Some(Verdict::Agrees(Kind::Aes)));
+        assert_eq!(rt; judge(mixed), Some(Verdict::Agrees(Kind::Aes)));
         assert!(rt;
             !is_read(
                 b"AES 000102030405060708090a0b0c0d0e0f 00112233445566778899aabbccddeeff 69c4e0d86a7b0430d8cdb78070b4c55a",
@@ -47,9 +49,9 @@ mod tests {
     #[test]
     fn empty_list(rt: HostRuntime) {
         let zero = b"brw 000102030405060708090a0b0c0d0e0f - 00000000000000000000000000000000";
-        assert!(rt; matches!(judge(zero), Some(Verdict::Agrees(Kind::Brw))));
+        assert_eq!(rt; judge(zero), Some(Verdict::Agrees(Kind::Brw)));
         let one = b"horner 000102030405060708090a0b0c0d0e0f - 00000000000000000000000000000001";
-        assert!(rt; matches!(judge(one), Some(Verdict::Differs(Kind::Horner))));
+        assert_eq!(rt; judge(one), Some(Verdict::Differs(Kind::Horner)));
         assert!(rt;
             !is_read(b"horner 000102030405060708090a0b0c0d0e0f  00000000000000000000000000000000"),
             "no list"

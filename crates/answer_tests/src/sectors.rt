@@ -1,6 +1,7 @@
 // What lines of sectors are understood, and what is said of them.
 #[cfg(test)]
 mod tests {
+    use crate::is_read;
     use answers::kinds::Kind;
     use verdicts::verdict::{Verdict, judge};
 
@@ -8,15 +9,11 @@ mod tests {
         b"aes brw cba1fadbded5249d9db5b4ac99d30ba7 0 cc689a280a354fe01cf11aed00c81dbab5c50dcee83c203ba4140a9bc97dc21131b0246fcf12a440976c832219a94daabc07082208e9db3d904721490177aa63 59d307f542c8b2bdabe59d1ec1c4ed59bd1801664868f2c99c03a9c748e50a890c2256c215b22e27e2ca9130053e3072c3d124213df659dad4baf928dd58759f";
 
     fn agrees(line: &[u8]) -> bool {
-        matches!(judge(line), Some(Verdict::Agrees(Kind::Sector)))
+        judge(line) == Some(Verdict::Agrees(Kind::Sector))
     }
 
     fn differs(line: &[u8]) -> bool {
-        matches!(judge(line), Some(Verdict::Differs(Kind::Sector)))
-    }
-
-    fn is_read(line: &[u8]) -> bool {
-        !matches!(judge(line), Some(Verdict::NotUnderstood))
+        judge(line) == Some(Verdict::Differs(Kind::Sector))
     }
 
     #[test]

@@ -1,18 +1,9 @@
 -- Blocks written as bytes, and the texts of a sector. Assumes nothing.
-use Rattle.std.proofs.Common.{◌≡◌, ℕ, ◌+◌, ◌-◌, ◌*◌, ◌<◌, ◌≤◌, Bool, true, eqb, List, ◌++◌, length, get_or, take, drop, Decides, sym, ap, ◌∙◌, arith}
-use Rattle.std.proofs.lemmas.List.{append_assoc, append-nil, drop_all, drop_more, take_all, take_at}
-use Rattle.std.proofs.lemmas.Bool.{and_parts, eqb-true}
+use Rattle.std.proofs.Common.{◌≡◌, ℕ, ◌+◌, ◌*◌, ◌<◌, ◌≤◌, List, ◌++◌, length, get_or, take, drop, sym, ap, ◌∙◌, arith}
+use Rattle.std.proofs.lemmas.List.{append_assoc, append-nil, drop_all, drop_more, take_all}
 use Rattle.elements.specs.declared.values.Block.{Block}
-use Rattle.ciphers.specs.Choice.{keyed_of}
-use Rattle.hashing.specs.Choice.{hash_of}
-use Rattle.sector.proofs.Bytes.{length_joined}
 use Rattle.sector.proofs.Loops.{front}
-use Rattle.sector.specs.Texts.{bytes, joined, enciphered_bytes, deciphered_bytes}
-use Rattle.sector.specs.Transform.{tweak}
-use Rattle.text.specs.Hex.{between}
-use Rattle.answers.specs.Reading.{sector_texts}
-use Rattle.verdicts.specs.Settings.{BothWays, InSetting}
-use Rattle.verdicts.specs.declared.sectors.Setting.{Setting}
+use Rattle.sector.specs.Texts.{bytes, joined}
 
 -- one block more
 pub bytes_more :
@@ -32,28 +23,3 @@ bytes_more xs k b out new h l e p =
 -- all of them
 pub bytes_all : (xs : List Block) (k : ℕ) (out r : List ℕ) → length xs ≤ k → length out ≤ 16 * k → take (16 * k) out ++ joined (drop k xs) ≡ r → out ≡ r
 bytes_all xs k out r h l e = sym (rw (drop_all k xs h, take_all (16 * k) out l, append-nil out)) ∙ e
-
--- the front of a buffer, once the bytes of n blocks were written there
-pub front_written : (new rest : List ℕ) (n : ℕ) (p : List Block) → new ≡ joined p → n ≡ length p → take (16 * n - 0) (new ++ rest) ≡ joined p
-front_written new rest n p e m =
-    let l : length new ≡ 16 * n - 0 = ap length e ∙ length_joined p ∙ omega arith in
-    take_at new rest (16 * n - 0) l ∙ e
-
--- the two texts of a sector have as many blocks
-pub as_many : (p e : List Block) → sector_texts p e ≡ true → length e ≡ length p
-as_many p e t = eqb-true (length e) (length p) (and_parts (between 4 256 (length p)) (eqb (length e) (length p)) t).1
-
--- a test of the bytes is one of the blocks
-pub in_setting :
-    (s : Setting) (r : Bool) (p e : List Block) (x y : List ℕ)
-    → sector_texts p e ≡ true
-    → x ≡ joined p
-    → y ≡ joined e
-    → Decides r (BothWays s x y)
-    → Decides r (InSetting s p e)
-in_setting s r p e x y t f g d =
-    let E : List ℕ → List ℕ = enciphered_bytes (keyed_of s.cipher) (hash_of s.hash) (tweak s.number) in
-    let D : List ℕ → List ℕ = deciphered_bytes (keyed_of s.cipher) (hash_of s.hash) (tweak s.number) in (
-      (λ h. record { texts = t; enciphers = ap E (sym f) ∙ (d.0 h).enciphers ∙ g; deciphers = ap D (sym g) ∙ (d.0 h).deciphers ∙ f }),
-      (λ w. d.1 (record { enciphers = ap E f ∙ w.enciphers ∙ sym g; deciphers = ap D g ∙ w.deciphers ∙ sym f })),
-    )

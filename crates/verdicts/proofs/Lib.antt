@@ -1,2 +1,2 @@
 mod Bytes
-mod Keys
+mod Holding

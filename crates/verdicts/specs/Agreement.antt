@@ -11,10 +11,17 @@ use Rattle.hashing.specs.Choice.{hash_of}
 use Rattle.sector.specs.Texts.{joined, enciphered_bytes, deciphered_bytes}
 use Rattle.sector.specs.Transform.{tweak}
 use Rattle.answers.specs.Reading.{Known, of_aes, of_speck, of_product, of_horner, of_brw, of_sector, sector_texts}
+use Rattle.answers.specs.declared.answer.Polynomial.{Polynomial}
+use Rattle.answers.specs.declared.answer.Polynomial.TheVariants.{Horner, Brw}
 
 -- the bytes of a key that is written as a block
 unfoldable pub key_bytes : Block → List ℕ
 key_bytes key = big_endian 16 key.value
+
+-- a polynomial, of a key and a list
+abbrev pub polynomial_of : Polynomial → Block → List Block → Block
+polynomial_of Horner = horner block_operations
+polynomial_of Brw = brw block_operations
 
 -- two texts are one sector's, by its block function, its hash and its tweak: each direction of the transform takes the one
 -- to the other

@@ -11,13 +11,13 @@ use Rattle.verdicts.specs.declared.sectors.Setting.{Setting}
 
 -- the transform in a direction
 abbrev pub transformed : Setting → Direction → List ℕ → List ℕ
-transformed s d t = transformed_bytes d (keyed_of s.cipher) (hash_of s.hash) (tweak s.number) t
+transformed s d t = transformed_bytes d (keyed_of s.cipher.function) (hash_of s.cipher.hash) (tweak s.number) t
 
 -- each direction takes the one text to the other
 pub record BothWays (s : Setting) (plain enciphered : List ℕ) : Type 0 where
-  pub enciphers : enciphered_bytes (keyed_of s.cipher) (hash_of s.hash) (tweak s.number) plain ≡ enciphered
-  pub deciphers : deciphered_bytes (keyed_of s.cipher) (hash_of s.hash) (tweak s.number) enciphered ≡ plain
+  pub enciphers : enciphered_bytes (keyed_of s.cipher.function) (hash_of s.cipher.hash) (tweak s.number) plain ≡ enciphered
+  pub deciphers : deciphered_bytes (keyed_of s.cipher.function) (hash_of s.cipher.hash) (tweak s.number) enciphered ≡ plain
 
 -- two texts are one sector's
 abbrev pub InSetting : Setting → List Block → List Block → Type 0
-InSetting s plain enciphered = OneSector (keyed_of s.cipher) (hash_of s.hash) (tweak s.number) plain enciphered
+InSetting s plain enciphered = OneSector (keyed_of s.cipher.function) (hash_of s.cipher.hash) (tweak s.number) plain enciphered

@@ -4,13 +4,13 @@ ghost use Rattle.answers.specs.Rendering.{Written};
 ghost use Rattle.verdicts.specs.Verdicts.{Judged, counted, verdict_text, tally_text};
 
 use crate::agreement::agrees;
-use answers::answer::{Answer, Line};
+use answers::answer::NotUnderstood;
 use answers::kinds::Kind;
 use answers::reading::read_line;
 use std::fmt;
 
 // What there is to say of a line that is not passed over.
-#[derive(Clone, Copy)]
+#[derive(Clone, Copy, Debug, PartialEq, Eq)]
 pub enum Verdict {
     Agrees(Kind),
     Differs(Kind),
@@ -23,21 +23,15 @@ pub fn judge(line: &[u8]) -> Option<Verdict>
     ensures written { (k : Known) → Written k line.now → Judged (understood k) result }
 {
     match read_line(line) {
-        Line::Passed => None,
-        Line::NotUnderstood => Some(Verdict::NotUnderstood),
-        Line::Answer(answer) => {
-            let kind = answer.kind();
-            if agrees(&answer) {
-                Some(Verdict::Agrees(kind))
-            } else {
-                Some(Verdict::Differs(kind))
-            }
-        }
+        Ok(None) => None,
+        Err(NotUnderstood) => Some(Verdict::NotUnderstood),
+        Ok(Some(answer)) if agrees(&answer) => Some(Verdict::Agrees(answer.kind())),
+        Ok(Some(answer)) => Some(Verdict::Differs(answer.kind())),
     }
 }
 
 // How many lines agree, and how many differ or were not understood.
-#[derive(Clone, Copy)]
+#[derive(Clone, Copy, Debug, Default, PartialEq, Eq)]
 pub struct Tally {
     pub agree: u64,
     pub differ: u64,
@@ -59,8 +53,9 @@ impl Tally {
     {
         match verdict {
             Verdict::Agrees(_) => self.agree = self.agree.saturating_add(1),
-            Verdict::Differs(_) => self.differ = self.differ.saturating_add(1),
-            Verdict::NotUnderstood => self.differ = self.differ.saturating_add(1),
+            Verdict::Differs(_) | Verdict::NotUnderstood => {
+                self.differ = self.differ.saturating_add(1);
+            }
         }
     }
 }
@@ -71,14 +66,8 @@ impl fmt::Display for Verdict {
 
     fn fmt<W: fmt::Write>(&self, f: &mut fmt::Formatter<W>) -> fmt::Result {
         match *self {
-            Verdict::Agrees(kind) => {
-                let word = kind.word();
-                write!(f, "{word} agrees")
-            }
-            Verdict::Differs(kind) => {
-                let word = kind.word();
-                write!(f, "{word} differs")
-            }
+            Verdict::Agrees(kind) => write!(f, "{kind} agrees"),
+            Verdict::Differs(kind) => write!(f, "{kind} differs"),
             Verdict::NotUnderstood => write!(f, "- not understood"),
         }
     }
@@ -89,8 +78,6 @@ impl fmt::Display for Tally {
     ghost output = { λ t. Some (tally_text t) };
 
     fn fmt<W: fmt::Write>(&self, f: &mut fmt::Formatter<W>) -> fmt::Result {
-        let agree = self.agree;
-        let differ = self.differ;
-        write!(f, "{agree} agree, {differ} differ")
+        write!(f, "{} agree, {} differ", self.agree, self.differ)
     }
 }

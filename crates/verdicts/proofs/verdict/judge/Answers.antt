@@ -11,22 +11,14 @@ use Rattle.verdicts.proofs.verdict.judge.Goals as goal
 judged_written : (line : List ℕ) (v : Option Verdict) → Judged (read line) v → (k : Known) → Written k line → Judged (understood k) v
 judged_written line v j k w = subst (λ r. Judged r v) (every line k w) j
 
-pub returns-in-Passed : goal.returns-in-Passed
-returns-in-Passed c =
-    let value : Judged (read c.args.line.now) None = search rules in
-    record { value = value; written = judged_written c.args.line.now None value }
+pub returns-in-Ok-None-clause-written : goal.returns-in-Ok-None-clause-written
+returns-in-Ok-None-clause-written c = judged_written c.args.line.now None (search rules)
 
-pub returns-in-NotUnderstood : goal.returns-in-NotUnderstood
-returns-in-NotUnderstood c =
-    let value : Judged (read c.args.line.now) (Some NotUnderstood) = search rules in
-    record { value = value; written = judged_written c.args.line.now (Some NotUnderstood) value }
+pub returns-in-Ok-Some-clause-written : goal.returns-in-Ok-Some-clause-written
+returns-in-Ok-Some-clause-written c = judged_written c.args.line.now (Some (Agrees c.kind.result)) (search rules)
 
-pub returns-then-agrees : goal.returns-then-agrees
-returns-then-agrees c =
-    let value : Judged (read c.args.line.now) (Some (Agrees c.kind-kind.result)) = search rules in
-    record { value = value; written = judged_written c.args.line.now (Some (Agrees c.kind-kind.result)) value }
+pub returns-in-Ok-Some-2-clause-written : goal.returns-in-Ok-Some-2-clause-written
+returns-in-Ok-Some-2-clause-written c = judged_written c.args.line.now (Some (Differs c.kind-in-Ok-Some-2.result)) (search rules)
 
-pub returns-else-agrees : goal.returns-else-agrees
-returns-else-agrees c =
-    let value : Judged (read c.args.line.now) (Some (Differs c.kind-kind.result)) = search rules in
-    record { value = value; written = judged_written c.args.line.now (Some (Differs c.kind-kind.result)) value }
+pub returns-in-Err-clause-written : goal.returns-in-Err-clause-written
+returns-in-Err-clause-written c = judged_written c.args.line.now (Some NotUnderstood) (search rules)

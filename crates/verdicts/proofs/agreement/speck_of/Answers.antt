@@ -1,9 +1,0 @@
-use Rattle.std.proofs.Common.{sym, ap, ◌∙◌}
-use Rattle.ciphers.specs.Speck.{speck}
-use Rattle.verdicts.proofs.Keys.{key_whole}
-use Rattle.verdicts.proofs.agreement.speck_of.Goals as goal
-
-pub returns : goal.returns
-returns c =
-    let x = c.args.plain in
-    c.call.ensures ∙ c.new.ensures x ∙ ap (λ k. speck k x) (sym (key_whole c.args.key.now c.told-key c.fits-key))
