@@ -1,5 +1,5 @@
 -- The laws of reading lines. Assumes nothing.
-use Rattle.std.proofs.Common.{◌≡◌, ℕ, ◌<◌, false, cond, List, [], ◌∷◌, ◌++◌, map, length, Some, None, decimal, Option, sym, refl, ap, ◌∙◌, subst, ap₂, ⊎_elim, arith}
+use Rattle.std.proofs.Common.{◌≡◌, ℕ, ◌<◌, false, cond, eqb, List, [], ◌∷◌, ◌++◌, map, length, Some, None, decimal, Option, sym, refl, ap, ◌∙◌, subst, ap₂, ⊎_elim, arith}
 use Rattle.std.proofs.lemmas.List.{length-map}
 use Rattle.std.proofs.lemmas.Bool.{cases_Bool, cond-true, cond-false}
 use Rattle.std.specs.Option.{option_map}
@@ -223,7 +223,7 @@ only line k e =
     let found : Reading = reading (known (words line)) in
     ⊎_elim
     (λ t.
-    let f : passed ≡ understood k = sym (cond-true (remark line) passed found t) ∙ e in
+    let f : passed ≡ understood k = rw t at e in
     absurd (cc))
     (λ t.
     let s = known_says (words line) k (reading_is (known (words line)) k (sym (cond-false (remark line) passed found t) ∙ e)) in
@@ -323,19 +323,17 @@ fields_known (of_horner a b c) fs h d = kind_known Horner (of_horner a b c) fs r
 fields_known (of_brw a b c) fs h d = kind_known Brw (of_brw a b c) fs refl (with_texts of_brw list_word (list_text small_digit) read_list_text a b c) d
 fields_known (of_sector c g key n p q) fs h d = sector_known c g key n p q fs h d
 
+remarkless : (c : ℕ) (v : List ℕ) (ws : List (List ℕ)) → eqb c 35 ≡ false → remark (spaced ((c ∷ v) ∷ ws)) ≡ false
+remarkless c v [] e = e
+remarkless c v (w ∷ ws) e = e
+
 no_remark : (j : Kind) (ws : List (List ℕ)) → remark (spaced (kind_word j ∷ ws)) ≡ false
-no_remark Aes [] = refl
-no_remark Aes (w ∷ ws) = refl
-no_remark Speck [] = refl
-no_remark Speck (w ∷ ws) = refl
-no_remark Product [] = refl
-no_remark Product (w ∷ ws) = refl
-no_remark Horner [] = refl
-no_remark Horner (w ∷ ws) = refl
-no_remark Brw [] = refl
-no_remark Brw (w ∷ ws) = refl
-no_remark Sector [] = refl
-no_remark Sector (w ∷ ws) = refl
+no_remark Aes ws = remarkless _ _ ws refl
+no_remark Speck ws = remarkless _ _ ws refl
+no_remark Product ws = remarkless _ _ ws refl
+no_remark Horner ws = remarkless _ _ ws refl
+no_remark Brw ws = remarkless _ _ ws refl
+no_remark Sector ws = remarkless _ _ ws refl
 
 -- a line that begins as an answer's does has its words, and is no remark
 opened_by : (j : Kind) (ws : List (List ℕ)) → AllUnspaced ws → (words (spaced (kind_word j ∷ ws)) ≡ kind_word j ∷ ws) × (remark (spaced (kind_word j ∷ ws)) ≡ false)

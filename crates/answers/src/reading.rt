@@ -16,8 +16,8 @@ use text::hex::{HexBlocks, read_block, read_list};
 use text::numbers::read_number;
 use text::words::first_word;
 
-// The words of an answer's three fields.
-#[derive(Clone, Copy)]
+// The words of an answer's three fields. In an array, no name would say which is which.
+#[derive(Clone, Copy, Debug, PartialEq, Eq)]
 struct Three<'a> {
     first: &'a [u8],
     second: &'a [u8],
@@ -90,7 +90,7 @@ fn read_by_kind(line: &[u8]) -> Option<Answer<'_>>
 }
 
 // The words of a sector's line.
-#[derive(Clone, Copy)]
+#[derive(Clone, Copy, Debug, PartialEq, Eq)]
 struct Six<'a> {
     cipher: &'a [u8],
     hash: &'a [u8],
