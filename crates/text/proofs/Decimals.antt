@@ -1,15 +1,15 @@
 -- Numbers as decimal words, written and read. Assumes nothing.
-use Rattle.std.proofs.Common.{◌≡◌, ℕ, ◌+◌, ◌-◌, ◌*◌, ◌^◌, ◌<◌, ◌≤◌, Bool, true, cond, not, ◌&&◌, ◌||◌, eqb, ltb, leb, List, [], ◌∷◌, map, length, get_or, Some, None, decimal, Option, sym, refl, ap, ◌∙◌, ap₂, ⊎_elim, arith}
+use Rattle.std.proofs.Common.{◌≡◌, ℕ, ◌+◌, ◌-◌, ◌*◌, ◌^◌, ◌<◌, ◌≤◌, true, not, ◌&&◌, ◌||◌, eqb, List, [], ◌∷◌, map, length, get_or, Some, decimal, sym, refl, ap, ◌∙◌, ap₂, arith}
 use Rattle.std.proofs.lemmas.Fmt.{decimal_digit, decimal_nonempty, length-decimal-le, first_decimal, digits_decimal, digits_value-decimal, decimal-digits_value}
 use Rattle.std.proofs.lemmas.Str.Parse.{FoldsDigits, IsNumeralModel, numerals_by_fold, tells_all_ascii_digits}
-use Rattle.std.proofs.lemmas.Bool.{cases_Bool, cases_lt, cond-true, cond-false, and_parts, and_from, or_cases, or_left, or_right, not-true, not_from_false, eqb-true, eqb-false, eq-eqb, ne_eqb, leb-true, le-leb, ltb-true, lt-ltb}
+use Rattle.std.proofs.lemmas.Bool.{and_parts}
 use Rattle.std.proofs.lemmas.Bool.Decides.{nat_tests}
 use Rattle.std.proofs.lemmas.List.Recursion.{same_from_clauses}
 use Rattle.std.specs.Char.{is_ascii_digit}
 use Rattle.std.specs.List.{list_all}
 use Rattle.std.specs.Int.Digits.{number_from_digits_after}
 use Rattle.std.specs.Str.{all_ascii_digits}
-use Rattle.text.specs.Hex.{between, digit, digit_value, digits_number}
+use Rattle.text.specs.Hex.{digit, digit_value, digits_number}
 use Rattle.text.specs.Numbers.{number_digits, number_word}
 use Rattle.text.specs.Writing.{small, Unspaced}
 
@@ -38,13 +38,7 @@ own = numerals_by_fold (λ ds. all_ascii_digits ds ≡ true) tells_all_ascii_dig
 -- ---- words and numbers
 
 no_zero_before : (n : ℕ) → n < 2 ^ 64 → (eqb (length (decimal n)) 1 || not (eqb (get_or (decimal n) 0 0) 48)) ≡ true
-no_zero_before n h =
-    let one : Bool = eqb (length (decimal n)) 1 in
-    let zero : Bool = eqb (get_or (decimal n) 0 0) 48 in
-    ⊎_elim
-    (λ z. or_left one (not zero) (eq-eqb (length (decimal n)) 1 (ap length (decimal_digit n (omega arith)))))
-    (λ p. or_right one (not zero) (not_from_false zero (ne_eqb (get_or (decimal n) 0 0) 48 (λ e. omega (arith, first_decimal n p h, e)))))
-    (cases_lt n 1)
+no_zero_before n h = grind (arith, nat_tests, decimal_digit n, first_decimal n)
 
 pub decimal_digits : (n : ℕ) → n < 2 ^ 64 → all_ascii_digits (decimal n) ≡ true
 decimal_digits n h = digits_decimal own n h
@@ -52,53 +46,20 @@ decimal_digits n h = digits_decimal own n h
 pub read_number_text : (n : ℕ) → n < 2 ^ 64 → number_word (decimal n) ≡ Some n
 unfolding number_word
 read_number_text n h =
-    let w : List ℕ = decimal n in
-    let v : ℕ = digits_number 10 w in
-    let e : v ≡ n = digits_value-decimal own n h in
-    let short : length w ≤ 20 = length-decimal-le 20 n (omega arith) (omega arith) h in
-    let lead : Bool = eqb (length w) 1 || not (eqb (get_or w 0 0) 48) in
-    let fine : number_digits w ≡ true =
-    and_from (between 1 20 (length w)) (lead && all_ascii_digits w)
-    (and_from (leb 1 (length w)) (leb (length w) 20) (le-leb 1 (length w) (decimal_nonempty n h)) (le-leb (length w) 20 short))
-    (and_from lead (all_ascii_digits w) (no_zero_before n h) (decimal_digits n h)) in
-    cond-true (number_digits w) (cond (ltb v (2 ^ 64)) (Some v) None) None fine
-    ∙ cond-true (ltb v (2 ^ 64)) (Some v) None (lt-ltb v (2 ^ 64) (omega arith)) ∙ ap Some e
+    let e : digits_number 10 (decimal n) ≡ n = digits_value-decimal own n h in
+    let short : length (decimal n) ≤ 20 = length-decimal-le 20 n (omega arith) (omega arith) h in
+    let some = decimal_nonempty n h in
+    let lead = no_zero_before n h in
+    let all = decimal_digits n h in
+    grind (arith, nat_tests)
 
 -- a word of digits is the one that its number is written as
 digits_text : (w : List ℕ) → number_digits w ≡ true → digits_number 10 w < 2 ^ 64 → decimal (digits_number 10 w) ≡ w
-digits_text w t h =
-    let lead : Bool = eqb (length w) 1 || not (eqb (get_or w 0 0) 48) in
-    let p = and_parts (between 1 20 (length w)) (lead && all_ascii_digits w) t in
-    let q = and_parts (leb 1 (length w)) (leb (length w) 20) p.0 in
-    let r = and_parts lead (all_ascii_digits w) p.1 in
-    decimal-digits_value own w r.1 (leb-true 1 (length w) q.0)
-    (λ e.
-    ⊎_elim (λ a. eqb-true (length w) 1 a) (λ b. absurd (eqb-false (get_or w 0 0) 48 (not-true (eqb (get_or w 0 0) 48) b) e))
-    (or_cases (eqb (length w) 1) (not (eqb (get_or w 0 0) 48)) r.0))
-    h
+digits_text w t h = grind (arith, nat_tests, decimal-digits_value own w)
 
 pub number_word_text : (w : List ℕ) (n : ℕ) → number_word w ≡ Some n → (w ≡ decimal n) × (n < 2 ^ 64)
 unfolding number_word
-number_word_text w n e =
-    let v : ℕ = digits_number 10 w in
-    let inner : Option ℕ = cond (ltb v (2 ^ 64)) (Some v) None in
-    ⊎_elim
-    (λ t.
-    let f : inner ≡ Some n = sym (cond-true (number_digits w) inner None t) ∙ e in
-    ⊎_elim
-    (λ s.
-    let g : Some v ≡ Some n = sym (cond-true (ltb v (2 ^ 64)) (Some v) None s) ∙ f in
-    let same : v ≡ n = cc in
-    let below : v < 2 ^ 64 = ltb-true v (2 ^ 64) s in
-    (sym (digits_text w t below) ∙ ap decimal same, omega arith))
-    (λ s.
-    let g : None ≡ Some n = sym (cond-false (ltb v (2 ^ 64)) (Some v) None s) ∙ f in
-    absurd (cc))
-    (cases_Bool (ltb v (2 ^ 64))))
-    (λ t.
-    let f : None ≡ Some n = sym (cond-false (number_digits w) inner None t) ∙ e in
-    absurd (cc))
-    (cases_Bool (number_digits w))
+number_word_text w n e = grind (arith, nat_tests, digits_text w)
 
 -- ---- decimal digits have no case
 

@@ -1,18 +1,19 @@
 -- Blocks and lists as words, written and read. Assumes nothing.
-use Rattle.std.proofs.Common.{◌≡◌, ℕ, zero, suc, ◌*◌, ◌/◌, ◌%◌, ◌^◌, ◌<◌, Bool, true, false, cond, ◌&&◌, eqb, ltb, List, [], ◌∷◌, ◌++◌, map, length, take, drop, is_some, Some, None, codes, Option, sym, refl, ap, ◌∙◌, subst, ap₂, ⊎_elim, mod-eq_of_lt, arith}
+use Rattle.std.proofs.Common.{◌≡◌, ℕ, zero, suc, ◌*◌, ◌/◌, ◌%◌, ◌^◌, ◌<◌, Bool, true, false, cond, ◌&&◌, eqb, ltb, List, [], ◌∷◌, ◌++◌, map, length, take, drop, is_some, Some, None, codes, sym, refl, ap, ◌∙◌, subst, ap₂, mod-eq_of_lt, arith}
 use Rattle.std.proofs.lemmas.List.Folds.{list_all-append}
 use Rattle.std.proofs.lemmas.Int.Digits.{number_lt}
 use Rattle.std.proofs.lemmas.Slice.Eq.{bytes_eq-Decides}
 use Rattle.std.proofs.lemmas.List.{length-map, length-append, map-append, take-append-drop, length-take-le, length-drop, take-map, drop-map, take_at, drop_at, nil_from_length}
-use Rattle.std.proofs.lemmas.Bool.{cases_Bool, cond-true, cond-false, and_parts, and_from, eqb-true, eq-eqb, ltb-true, lt-ltb}
-use Rattle.std.proofs.lemmas.Bool.Decides.{same_from_decides}
+use Rattle.std.proofs.lemmas.Bool.{and_parts}
+use Rattle.std.proofs.lemmas.Bool.Decides.{same_from_decides, nat_tests}
+use Rattle.std.proofs.lemmas.Grind.{common_steps}
 use Rattle.std.specs.Int.Digits.{number_from_digits}
 use Rattle.std.specs.Str.{bytes_eq}
 use Rattle.elements.specs.Instances.{block_whole}
 use Rattle.elements.specs.Endian.{big_endian}
 use Rattle.elements.specs.Values.{block}
 use Rattle.elements.specs.declared.values.Block.{Block}
-use Rattle.text.specs.Hex.{digit, digit_value, all_digits, hex_block, hex_blocks, hex_blocks_of, one_block, block_word, some_blocks, list_word}
+use Rattle.text.specs.Hex.{digit, digit_value, all_digits, hex_block, hex_blocks, hex_blocks_of, block_word, some_blocks, list_word}
 use Rattle.text.specs.Writing.{small_digit, block_text, blocks_text, list_text, small, Unspaced}
 use Rattle.text.proofs.Digits.{values_under, blocks_length}
 use Rattle.text.proofs.Hexes.{halves, text_halves, block_under, block_length, block_number, block_back, digits_of_small, values_of_small, small_of_values, all_digits_small, values_small, small_written, small_dash}
@@ -61,24 +62,11 @@ small_block_text d h x =
 
 pub read_block_text : (x : Block) → block_word (block_text small_digit x) ≡ Some x
 unfolding block_word
-read_block_text x =
-    let w : List ℕ = block_text small_digit x in
-    cond-true (one_block w) (Some (hex_block w)) None (and_from (eqb (length w) 32) (all_digits w) (eq-eqb (length w) 32 (text_length small_digit x)) (text_digits x))
-    ∙ ap Some (block_of_text x)
+read_block_text x = grind (arith, nat_tests, text_length small_digit x, text_digits x, block_of_text x)
 
 pub block_word_text : (w : List ℕ) (x : Block) → block_word w ≡ Some x → map small w ≡ block_text small_digit x
 unfolding block_word
-block_word_text w x e =
-    ⊎_elim
-    (λ t.
-    let p = and_parts (eqb (length w) 32) (all_digits w) t in
-    let f : Some (hex_block w) ≡ Some x = sym (cond-true (one_block w) (Some (hex_block w)) None t) ∙ e in
-    let g : hex_block w ≡ x = cc in
-    text_of_block w (eqb-true (length w) 32 p.0) p.1 ∙ ap (block_text small_digit) g)
-    (λ t.
-    let f : None ≡ Some x = sym (cond-false (one_block w) (Some (hex_block w)) None t) ∙ e in
-    absurd (cc))
-    (cases_Bool (one_block w))
+block_word_text w x e = grind (arith, nat_tests, text_of_block w)
 
 pub block_word_small : (w : List ℕ) → block_word (map small w) ≡ block_word w
 unfolding block_word
@@ -128,61 +116,31 @@ blocks_small (suc n) w =
     (ap (hex_blocks n) (drop-map small 32 w) ∙ blocks_small n (drop 32 w))
 
 not_dash : (w : List ℕ) → (length w ≡ 1 → ⊥) → bytes_eq w (codes "-") ≡ false
-not_dash w h =
-    ⊎_elim (λ t. absurd (h (ap length ((bytes_eq-Decides w (codes "-")).0 t)))) (λ t. t) (cases_Bool (bytes_eq w (codes "-")))
+not_dash w h = grind (arith, common_steps, bytes_eq-Decides w (codes "-"))
 
 dash_small : (w : List ℕ) → map small w ≡ codes "-" → w ≡ codes "-"
 dash_small [] e = absurd (cc)
 dash_small (c ∷ []) e = let f : small c ≡ 45 = cc in ap (λ x. x ∷ []) (small_dash c f)
 dash_small (c ∷ (d ∷ w)) e = absurd (cc)
 
+list_read : (w : List ℕ) (xs : List Block) → 0 < length xs → length w ≡ 32 * length xs → all_digits w ≡ true → hex_blocks (length xs) w ≡ xs → list_word w ≡ Some xs
+unfolding list_word
+list_read w xs some l h b =
+    let n : length w / 32 ≡ length xs = omega arith in
+    grind (arith, nat_tests, not_dash w)
+
 pub read_list_text : (xs : List Block) → list_word (list_text small_digit xs) ≡ Some xs
 unfolding list_word
 read_list_text [] = refl
 read_list_text (x ∷ xs) =
-    let w : List ℕ = blocks_text small_digit (x ∷ xs) in
-    let n : ℕ = length (x ∷ xs) in
-    let l : length w ≡ 32 * n = texts_length small_digit (x ∷ xs) in
-    let some : 0 < length w = omega (arith, l) in
-    let whole : length w % 32 ≡ 0 = omega (arith, l) in
-    let count : length w / 32 ≡ n = omega (arith, l) in
-    let other : length w ≡ 1 → ⊥ = λ e. omega (arith, l, e) in
-    cond-false (bytes_eq w (codes "-")) (Some []) (cond (some_blocks w) (Some (hex_blocks_of w)) None) (not_dash w other)
-    ∙ cond-true (some_blocks w) (Some (hex_blocks_of w)) None
-    (and_from (ltb 0 (length w)) (eqb (length w % 32) 0 && all_digits w) (lt-ltb 0 (length w) some)
-    (and_from (eqb (length w % 32) 0) (all_digits w) (eq-eqb (length w % 32) 0 whole) (texts_digits (x ∷ xs))))
-    ∙ ap Some (ap (λ (k : ℕ). hex_blocks k w) count ∙ blocks_of_texts (x ∷ xs))
+    list_read (blocks_text small_digit (x ∷ xs)) (x ∷ xs) (omega arith) (texts_length small_digit (x ∷ xs)) (texts_digits (x ∷ xs)) (blocks_of_texts (x ∷ xs))
 
 list_blocks_text : (w : List ℕ) → some_blocks w ≡ true → map small w ≡ list_text small_digit (hex_blocks_of w)
-list_blocks_text w t =
-    let p = and_parts (ltb 0 (length w)) (eqb (length w % 32) 0 && all_digits w) t in
-    let q = and_parts (eqb (length w % 32) 0) (all_digits w) p.1 in
-    let some : 0 < length w = ltb-true 0 (length w) p.0 in
-    let whole : length w % 32 ≡ 0 = eqb-true (length w % 32) 0 q.0 in
-    texts_of_blocks (length w / 32) w (omega (arith, whole)) q.1
-    ∙ list_is_blocks small_digit (hex_blocks_of w) (omega (arith, some, whole, blocks_length (length w / 32) w))
+list_blocks_text w t = grind (arith, nat_tests, texts_of_blocks (length w / 32) w, list_is_blocks small_digit (hex_blocks_of w), blocks_length (length w / 32) w)
 
 pub list_word_text : (w : List ℕ) (xs : List Block) → list_word w ≡ Some xs → map small w ≡ list_text small_digit xs
 unfolding list_word
-list_word_text w xs e =
-    let rest : Option (List Block) = cond (some_blocks w) (Some (hex_blocks_of w)) None in
-    ⊎_elim
-    (λ t.
-    let f : Some [] ≡ Some xs = sym (cond-true (bytes_eq w (codes "-")) (Some []) rest t) ∙ e in
-    let g : [] ≡ xs = cc in
-    ap (map small) ((bytes_eq-Decides w (codes "-")).0 t) ∙ ap (list_text small_digit) g)
-    (λ t.
-    let e' : rest ≡ Some xs = sym (cond-false (bytes_eq w (codes "-")) (Some []) rest t) ∙ e in
-    ⊎_elim
-    (λ s.
-    let f : Some (hex_blocks_of w) ≡ Some xs = sym (cond-true (some_blocks w) (Some (hex_blocks_of w)) None s) ∙ e' in
-    let g : hex_blocks_of w ≡ xs = cc in
-    list_blocks_text w s ∙ ap (list_text small_digit) g)
-    (λ s.
-    let f : None ≡ Some xs = sym (cond-false (some_blocks w) (Some (hex_blocks_of w)) None s) ∙ e' in
-    absurd (cc))
-    (cases_Bool (some_blocks w)))
-    (cases_Bool (bytes_eq w (codes "-")))
+list_word_text w xs e = grind (arith, nat_tests, bytes_eq-Decides w (codes "-"), list_blocks_text w)
 
 pub list_word_small : (w : List ℕ) → list_word (map small w) ≡ list_word w
 unfolding list_word

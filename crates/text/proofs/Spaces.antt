@@ -1,8 +1,9 @@
 -- Words and the text that they make. Assumes nothing.
-use Rattle.std.proofs.Common.{◌≡◌, ℕ, ◌+◌, ◌≤◌, Bool, true, cond, not, ◌&&◌, eqb, ltb, List, [], ◌∷◌, ◌++◌, map, length, take, drop, Some, None, codes, refl, ap, ◌∙◌, ⊎_elim, arith}
+use Rattle.std.proofs.Common.{◌≡◌, ℕ, ◌+◌, ◌≤◌, Bool, true, cond, not, ◌&&◌, eqb, List, [], ◌∷◌, ◌++◌, map, length, take, drop, Some, None, codes, refl, ap, ◌∙◌, ⊎_elim, arith}
 use Rattle.std.specs.List.{position, position_or_len, onto_first}
-use Rattle.std.proofs.lemmas.Bool.{cases_Bool, cond_both, and_parts, not-true, eqb-false, ne_eqb, ltb-true, ltb-false}
+use Rattle.std.proofs.lemmas.Bool.{cases_Bool, cond_both, and_parts, not-true, eqb-false, ne_eqb}
 use Rattle.text.specs.Writing.{small_digit, small, Unspaced, AllUnspaced}
+use Rattle.std.proofs.lemmas.Bool.Decides.{nat_tests}
 use Rattle.std.proofs.lemmas.List.Splits.{slice_split_first, join_with_byte-slice_split}
 use Rattle.text.specs.Words.{words, spaced}
 use Rattle.text.proofs.Hexes.{digit_no_space, small_space}
@@ -43,15 +44,7 @@ abbrev space : ℕ → Bool
 space c = eqb c 32
 
 pub words_cut : (t : List ℕ) (i : ℕ) → position space t ≡ Some i → words t ≡ take i t ∷ words (drop (i + 1) t)
-words_cut t i e =
-    let n : ℕ = position_or_len space t in
-    ⊎_elim
-    (λ l.
-    let f : Some n ≡ Some i = rw l at e in
-    let g : n ≡ i = cc in
-    slice_split_first space t 0 (ltb-true n (length t) l) ∙ ap (λ (k : ℕ). take k t ∷ words (drop (k + 1) t)) g)
-    (λ l. let f : None ≡ Some i = rw l at e in absurd (cc))
-    (cases_Bool (ltb n (length t)))
+words_cut t i e = grind (arith, nat_tests, slice_split_first space t 0)
 
 uncut : (t : List ℕ) → length t ≤ position_or_len space t → words t ≡ t ∷ []
 uncut [] h = refl
@@ -62,12 +55,7 @@ uncut (c ∷ t) h =
     (cases_Bool (eqb c 32))
 
 pub words_uncut : (t : List ℕ) → position space t ≡ None → words t ≡ t ∷ []
-words_uncut t e =
-    let n : ℕ = position_or_len space t in
-    ⊎_elim
-    (λ l. let f : Some n ≡ None = rw l at e in absurd (cc))
-    (λ l. uncut t (ltb-false n (length t) l))
-    (cases_Bool (ltb n (length t)))
+words_uncut t e = grind (arith, nat_tests, uncut t)
 
 -- ---- no space in a word
 

@@ -21,6 +21,7 @@ fn is_hex(text: &[u8]) -> bool
 }
 
 // The number that digits write in a base, the highest first. What is no digit counts as 0.
+#[tactic(auto, using(crate::proofs::Digits::number_digit, crate::proofs::Digits::number_room, crate::proofs::Digits::digit_lt))]
 pub(crate) fn number_of(base: u8, digits: &[u8]) -> u128
     requires few { length digits.now ≤ 32 }
     requires small { base ≤ 16 }
