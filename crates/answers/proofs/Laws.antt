@@ -1,7 +1,7 @@
 -- The laws of reading lines. Assumes nothing.
-use Rattle.std.proofs.Common.{◌≡◌, ℕ, ◌<◌, false, cond, eqb, List, [], ◌∷◌, ◌++◌, map, length, Some, None, decimal, Option, sym, refl, ap, ◌∙◌, subst, ap₂, ⊎_elim, arith}
+use Rattle.std.proofs.Common.{◌≡◌, ℕ, ◌<◌, Bool, true, false, cond, eqb, List, [], ◌∷◌, ◌++◌, map, length, Some, None, decimal, Option, sym, refl, ap, ◌∙◌, subst, ap₂, arith}
 use Rattle.std.proofs.lemmas.List.{length-map}
-use Rattle.std.proofs.lemmas.Bool.{cases_Bool, cond-true, cond-false}
+use Rattle.std.proofs.lemmas.Bool.{cond-true}
 use Rattle.std.specs.Option.{option_map}
 use Rattle.elements.specs.declared.values.Block.{Block}
 use Rattle.ciphers.specs.declared.choice.Cipher.{Cipher}
@@ -178,6 +178,10 @@ there : {X R : Type 0} (o : Option X) (f : X → Option R) (r : R) → then o f 
 there None f r e = absurd (cc)
 there (Some x) f r e = record { value = x; is = refl; rest = e }
 
+picked : (b : Bool) (j k : Known) → cond b (Some j) None ≡ Some k → (b ≡ true) × (j ≡ k)
+picked true j k e = (refl, cc)
+picked false j k e = absurd (cc)
+
 sector_says : (w : Six) (k : Known) → sector_of w ≡ Some k → Says k (listed_six w)
 sector_says w k e =
     let a = there (cipher_by (kind_named w.cipher)) _ k e in
@@ -188,11 +192,8 @@ sector_says w k e =
     let q = there (list_word w.fields.third) _ k p.rest in
     let m = number_word_text w.fields.first n.value n.is in
     let j : Known = of_sector a.value b.value c.value n.value p.value q.value in
-    ⊎_elim
-    (λ t.
-    let f : Some j ≡ Some k = sym (cond-true (sector_texts p.value q.value) (Some j) None t) ∙ q.rest in
-    let s : j ≡ k = cc in
-    subst (λ (i : Known). Says i (listed_six w)) s
+    let whole = picked (sector_texts p.value q.value) j k q.rest in
+    subst (λ (i : Known). Says i (listed_six w)) whole.1
     (record {
       fields = w.key ∷ listed w.fields;
       whole = ap₂ (λ (x y : List ℕ). x ∷ (y ∷ (w.key ∷ listed w.fields))) (cipher_is w.cipher a.value (kind_named w.cipher) refl a.is)
@@ -200,12 +201,8 @@ sector_says w k e =
       digits = ap₂ ◌∷◌ (block_word_text w.key c.value c.is)
           (ap₂ ◌∷◌ (ap (map small) m.0 ∙ small_number_text n.value m.1)
           (ap₂ ◌∷◌ (list_word_text w.fields.second p.value p.is) (ap (λ x. x ∷ []) (list_word_text w.fields.third q.value q.is))));
-      bounded = (m.1, t);
-    }))
-    (λ t.
-    let f : None ≡ Some k = sym (cond-false (sector_texts p.value q.value) (Some j) None t) ∙ q.rest in
-    absurd (cc))
-    (cases_Bool (sector_texts p.value q.value))
+      bounded = (m.1, whole.0);
+    })
 
 says_by : (ws : List (List ℕ)) (k : Known) (o : Option Six) → six ws ≡ o → sector_or o (by_kind ws) ≡ Some k → Says k ws
 says_by ws k None p e = kind_says ws k e
@@ -214,21 +211,15 @@ says_by ws k (Some w) p e = subst (Says k) (sym (six_is ws w p)) (sector_says w 
 known_says : (ws : List (List ℕ)) (k : Known) → known ws ≡ Some k → Says k ws
 known_says ws k e = says_by ws k (six ws) refl e
 
-reading_is : (o : Option Known) (k : Known) → reading o ≡ understood k → o ≡ Some k
-reading_is None k e = absurd (cc)
-reading_is (Some j) k e = let s : j ≡ k = cc in ap Some s
+found : (remark : Bool) (o : Option Known) (k : Known) → cond remark passed (reading o) ≡ understood k → o ≡ Some k
+found true o k e = cc
+found false None k e = cc
+found false (Some j) k e = cc
 
 pub only : (line : List ℕ) (k : Known) → read line ≡ understood k → Written k line
 only line k e =
-    let found : Reading = reading (known (words line)) in
-    ⊎_elim
-    (λ t.
-    let f : passed ≡ understood k = rw t at e in
-    absurd (cc))
-    (λ t.
-    let s = known_says (words line) k (reading_is (known (words line)) k (sym (cond-false (remark line) passed found t) ∙ e)) in
-    record { fields = s.fields; whole = sym (spaced_words line) ∙ ap spaced s.whole; digits = s.digits; bounded = s.bounded })
-    (cases_Bool (remark line))
+    let s = known_says (words line) k (found (remark line) (known (words line)) k e) in
+    record { fields = s.fields; whole = sym (spaced_words line) ∙ ap spaced s.whole; digits = s.digits; bounded = s.bounded }
 
 -- ---- what is written so is understood
 
@@ -361,16 +352,14 @@ every line k w =
     let o = opened k fs (all_unspaced_small fs (subst AllUnspaced (sym w.digits) (fields_unspaced k w.bounded))) in
     let here : remark line ≡ false = ap remark w.whole ∙ o.1 in
     let answer : known (words line) ≡ Some k = ap known (ap words w.whole ∙ o.0) ∙ fields_known k fs w.bounded w.digits in
-    cond-false (remark line) passed (reading (known (words line))) here ∙ ap reading answer
+    rw (here, answer)
 
 reading_or : (o : Option Known) → ((k : Known) → reading o ≡ understood k → ⊥) → reading o ≡ not_understood
 reading_or None h = refl
 reading_or (Some k) h = absurd (h k refl)
 
 others : (line : List ℕ) → remark line ≡ false → ((k : Known) → Written k line → ⊥) → read line ≡ not_understood
-others line t h =
-    let here : read line ≡ reading (known (words line)) = cond-false (remark line) passed (reading (known (words line))) t in
-    here ∙ reading_or (known (words line)) (λ k e. h k (only line k (here ∙ e)))
+others line t h = rw t (reading_or (known (words line)) (λ k e. h k (only line k (rw t e))))
 
 -- ---- renderings
 
