@@ -17,6 +17,7 @@ fn first_space(text: &[u8]) -> Option<usize>
 }
 
 // A text cut at its first space.
+#[tactic(auto, using(crate::proofs::Spaces::words_cut, crate::proofs::Spaces::words_uncut, std::proofs::lemmas::List::take_rest))]
 pub fn first_word(text: &[u8]) -> Cut<'_>
     ensures { words text.now ≡ result.word.now ∷ words_left result.rest }
 {
