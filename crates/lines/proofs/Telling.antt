@@ -1,13 +1,16 @@
 -- A line tells its record. Assumes nothing.
-use Rattle.std.proofs.Common.{◌≡◌, ℕ, ◌/◌, ◌%◌, ◌^◌, ◌<◌, true, false, cond, eqb, List, [], ◌∷◌, get_or, Some, None, Ok, Err, codes, decimal, Option, Result, sym, refl, ap, ◌∙◌, ap₂, arith, lit<}
+use Rattle.std.proofs.Common.{◌≡◌, ℕ, ◌/◌, ◌%◌, ◌^◌, ◌<◌, Bool, true, false, cond, eqb, ltb, List, [], ◌∷◌, get_or, Some, None, Ok, Err, codes, decimal, Option, Result, sym, refl, ap, ◌∙◌, ap₂, arith, lit<}
 use Rattle.std.proofs.lemmas.Fmt.{decimal_injective}
 use Rattle.std.proofs.lemmas.Bool.Decides.{nat_tests}
 use Rattle.std.specs.Int.Digits.{AllBelowBase}
+use Rattle.std.specs.Char.{is_ascii_digit}
+use Rattle.std.specs.List.{AllByRecursion, list_all}
 use Rattle.std.specs.Str.{all_ascii_digits}
+use Rattle.std.proofs.lemmas.Bool.{and_parts, ltb-true}
 use Rattle.text.specs.Writing.{capital_digit, bytes_text, Unspaced, AllUnspaced}
 use Rattle.text.specs.Words.{words}
-use Rattle.text.proofs.Decimals.{decimal_digits, unspaced_number}
-use Rattle.text.proofs.Spaces.{words_spaced, words_unspaced}
+use Rattle.text.proofs.Decimals.{decimal_digits}
+use Rattle.text.proofs.Spaces.{words_spaced}
 use Rattle.sector.specs.declared.refusal.Refusal.{Refusal}
 use Rattle.sector.specs.declared.refusal.Refusal.TheVariants.{TextLength, BufferLength, WorkingLength, SectorNumber, SectorFailed, Figures, SheetBroken, OutOfTurn}
 use Rattle.lines.specs.Printed.{kind_word, answer_number, or_dash, line_words, line_text, sector_fits, first_fits, Fitting}
@@ -56,7 +59,7 @@ refusal_small Figures = lit< tt
 refusal_small SheetBroken = lit< tt
 refusal_small OutOfTurn = lit< tt
 
-pub answer_small : (a : Result (Unit {0}) Refusal) → answer_number a < 9
+answer_small : (a : Result (Unit {0}) Refusal) → answer_number a < 9
 answer_small (Ok u) = lit< tt
 answer_small (Err r) = refusal_small r
 
@@ -67,7 +70,7 @@ answer_same a b e =
     ∙ answer_there b
 
 no_dash : (n : ℕ) → n < 2 ^ 64 → codes "-" ≡ decimal n → ⊥
-no_dash n h e = let f : false ≡ true = ap all_ascii_digits e ∙ decimal_digits n h in let z : ◌≡◌ {A = ℕ} 0 1 = cc in omega arith
+no_dash n h e = let f : false ≡ true = ap all_ascii_digits e ∙ decimal_digits n h in cc
 
 sector_same : (s t : Option ℕ) → sector_fits s → sector_fits t → or_dash decimal s ≡ or_dash decimal t → s ≡ t
 sector_same None None f g e = refl
@@ -80,8 +83,8 @@ digit_same v w f g e = grind (arith, nat_tests)
 
 bytes_same : (s t : List ℕ) → AllBelowBase 256 s → AllBelowBase 256 t → bytes_text capital_digit s ≡ bytes_text capital_digit t → s ≡ t
 bytes_same [] [] f g e = refl
-bytes_same [] (y ∷ t) f g e = let z : ◌≡◌ {A = ℕ} 0 1 = cc in absurd (omega arith)
-bytes_same (x ∷ s) [] f g e = let z : ◌≡◌ {A = ℕ} 0 1 = cc in absurd (omega arith)
+bytes_same [] (y ∷ t) f g e = cc
+bytes_same (x ∷ s) [] f g e = cc
 bytes_same (x ∷ s) (y ∷ t) f g e =
     let fx : x < 256 = f.0 in
     let gy : y < 256 = g.0 in
@@ -94,8 +97,8 @@ bytes_same (x ∷ s) (y ∷ t) f g e =
     ap₂ ◌∷◌ same (bytes_same s t f.1 g.1 rest)
 
 two_digits : (s : List ℕ) → codes "-" ≡ bytes_text capital_digit s → ⊥
-two_digits [] e = let z : ◌≡◌ {A = ℕ} 0 1 = cc in omega arith
-two_digits (x ∷ s) e = let z : ◌≡◌ {A = ℕ} 0 1 = cc in omega arith
+two_digits [] e = cc
+two_digits (x ∷ s) e = cc
 
 first_same : (s t : Option (List ℕ)) → first_fits s → first_fits t → or_dash (bytes_text capital_digit) s ≡ or_dash (bytes_text capital_digit) t → s ≡ t
 first_same None None f g e = refl
@@ -103,43 +106,72 @@ first_same None (Some y) f g e = absurd (two_digits y e)
 first_same (Some x) None f g e = absurd (two_digits x (sym e))
 first_same (Some x) (Some y) f g e = ap Some (bytes_same x y f g e)
 
--- ---- no space in a word
+-- ---- neither a space nor an end of a line in a word
 
-unspaced_kind : (k : LineKind) → Unspaced (kind_word k)
-unspaced_kind Setting = (words_unspaced (codes "setting")).0
-unspaced_kind Write = (words_unspaced (codes "write")).0
-unspaced_kind Read = (words_unspaced (codes "read")).0
-unspaced_kind Broken = (words_unspaced (codes "broken")).0
+abbrev pub Graphic : List ℕ → Type 0
+Graphic w = AllByRecursion (λ c. 32 < c) w
 
-digit_unspaced : (v : ℕ) → capital_digit v ≡ 32 → ⊥
-digit_unspaced v e = grind (arith, nat_tests)
+abbrev pub AllGraphic : List (List ℕ) → Type 0
+AllGraphic ws = AllByRecursion Graphic ws
 
-unspaced_bytes : (s : List ℕ) → Unspaced (bytes_text capital_digit s)
-unspaced_bytes [] = tt
-unspaced_bytes (x ∷ s) = (digit_unspaced (x / 16), (digit_unspaced (x % 16), unspaced_bytes s))
+-- by a test: of words that are written out, and of digits
+graphic_by : (p : ℕ → Bool) → ((c : ℕ) → p c ≡ true → 32 < c) → (w : List ℕ) → list_all p w ≡ true → Graphic w
+graphic_by p f [] h = tt
+graphic_by p f (c ∷ w) h = let q = and_parts (p c) (list_all p w) h in (f c q.0, graphic_by p f w q.1)
 
-unspaced_sector : (s : Option ℕ) → sector_fits s → Unspaced (or_dash decimal s)
-unspaced_sector None f = (words_unspaced (codes "-")).0
-unspaced_sector (Some n) f = unspaced_number n (omega arith)
+graphic_from : (w : List ℕ) → list_all (ltb 32) w ≡ true → Graphic w
+graphic_from = graphic_by (ltb 32) (ltb-true 32)
 
-unspaced_first : (s : Option (List ℕ)) → Unspaced (or_dash (bytes_text capital_digit) s)
-unspaced_first None = (words_unspaced (codes "-")).0
-unspaced_first (Some x) = unspaced_bytes x
+graphic_digits : (w : List ℕ) → all_ascii_digits w ≡ true → Graphic w
+graphic_digits [] h = tt
+graphic_digits (c ∷ w) h = let q = and_parts (is_ascii_digit c) (all_ascii_digits w) h in (grind (arith, nat_tests), graphic_digits w q.1)
 
-unspaced_line : (l : Line) → Fitting l → AllUnspaced (line_words l)
-unspaced_line l f = (
-  unspaced_number l.index f.index,
+graphic_kind : (k : LineKind) → Graphic (kind_word k)
+graphic_kind Setting = graphic_from (codes "setting") refl
+graphic_kind Write = graphic_from (codes "write") refl
+graphic_kind Read = graphic_from (codes "read") refl
+graphic_kind Broken = graphic_from (codes "broken") refl
+
+graphic_number : (n : ℕ) → n < 2 ^ 64 → Graphic (decimal n)
+graphic_number n h = graphic_digits (decimal n) (decimal_digits n h)
+
+graphic_digit : (v : ℕ) → 32 < capital_digit v
+graphic_digit v = grind (arith, nat_tests)
+
+graphic_bytes : (s : List ℕ) → Graphic (bytes_text capital_digit s)
+graphic_bytes [] = tt
+graphic_bytes (x ∷ s) = (graphic_digit (x / 16), (graphic_digit (x % 16), graphic_bytes s))
+
+graphic_sector : (s : Option ℕ) → sector_fits s → Graphic (or_dash decimal s)
+graphic_sector None f = graphic_from (codes "-") refl
+graphic_sector (Some n) f = graphic_number n (omega arith)
+
+graphic_first : (s : Option (List ℕ)) → Graphic (or_dash (bytes_text capital_digit) s)
+graphic_first None = graphic_from (codes "-") refl
+graphic_first (Some x) = graphic_bytes x
+
+pub graphic_line : (l : Line) → Fitting l → AllGraphic (line_words l)
+graphic_line l f = (
+  graphic_number l.index f.index,
   (
-    unspaced_kind l.kind,
+    graphic_kind l.kind,
     (
-      unspaced_sector l.sector f.sector,
-      (unspaced_number (answer_number l.answer) (omega (arith, answer_small l.answer)), (unspaced_first l.first, tt)),
+      graphic_sector l.sector f.sector,
+      (graphic_number (answer_number l.answer) (omega (arith, answer_small l.answer)), (graphic_first l.first, tt)),
     ),
   ),
 )
 
+unspaced_word : (w : List ℕ) → Graphic w → Unspaced w
+unspaced_word [] g = tt
+unspaced_word (c ∷ w) g = (λ e. omega (arith, g.0), unspaced_word w g.1)
+
+unspaced_words : (ws : List (List ℕ)) → AllGraphic ws → AllUnspaced ws
+unspaced_words [] g = tt
+unspaced_words (w ∷ ws) g = (unspaced_word w g.0, unspaced_words ws g.1)
+
 back : (l : Line) → Fitting l → words (line_text l) ≡ line_words l
-back l f = words_spaced _ _ (unspaced_line l f)
+back l f = words_spaced _ _ (unspaced_words (line_words l) (graphic_line l f))
 
 pub lines_tell : (a b : Line) → Fitting a → Fitting b → line_text a ≡ line_text b → a ≡ b
 lines_tell a b f g e =

@@ -1,7 +1,7 @@
 use sector::refusal::Refusal;
 
 // What a record of a sheet is, or that the sheet is broken where the record would stand.
-#[derive(Clone, Copy)]
+#[derive(Clone, Copy, Debug, PartialEq, Eq)]
 pub enum LineKind {
     Setting,
     Write,

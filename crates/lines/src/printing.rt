@@ -1,5 +1,4 @@
-ghost use Rattle.std.specs.Prelude.{◌≡◌, ◌<◌, [], ◌∷◌, Some};
-ghost use Rattle.std.specs.Char.{encode_utf8};
+ghost use Rattle.std.specs.Prelude.{◌≡◌, Some};
 ghost use Rattle.text.specs.Writing.{capital_digit, bytes_text};
 ghost use Rattle.lines.specs.Printed.{kind_word, answer_number, shown_or_dash, line_text, header_text, report_text};
 
@@ -21,6 +20,14 @@ impl LineKind {
     }
 }
 
+impl fmt::Display for LineKind {
+    ghost output = { λ k. Some (kind_word k) };
+
+    fn fmt<W: fmt::Write>(&self, f: &mut fmt::Formatter<W>) -> fmt::Result {
+        f.write_str(self.word())
+    }
+}
+
 // 0 where nothing is refused, or the refusal's number.
 fn answer_number(answer: Result<(), Refusal>) -> u8
     ensures { result ≡ answer_number answer }
@@ -28,34 +35,6 @@ fn answer_number(answer: Result<(), Refusal>) -> u8
     match answer {
         Ok(()) => 0,
         Err(refusal) => refusal.number(),
-    }
-}
-
-// The capital hex digit of a value below 16.
-fn capital_digit(value: u8) -> char
-    requires { value < 16 }
-    ensures { encode_utf8 result ≡ capital_digit value ∷ [] }
-{
-    if value < 10 {
-        char::from(b'0' + value)
-    } else {
-        char::from(b'A' + (value - 10))
-    }
-}
-
-// A byte as two capital hex digits.
-#[derive(Clone, Copy)]
-struct HexByte {
-    byte: u8,
-}
-
-impl fmt::Display for HexByte {
-    ghost output = { λ x. Some (bytes_text capital_digit (x.byte ∷ [])) };
-
-    fn fmt<W: fmt::Write>(&self, f: &mut fmt::Formatter<W>) -> fmt::Result {
-        let high = capital_digit(self.byte / 16);
-        let low = capital_digit(self.byte % 16);
-        write!(f, "{high}{low}")
     }
 }
 
@@ -69,8 +48,8 @@ impl fmt::Display for HexBytes<'_> {
     ghost output = { λ x. Some (bytes_text capital_digit x.bytes.now) };
 
     fn fmt<W: fmt::Write>(&self, f: &mut fmt::Formatter<W>) -> fmt::Result {
-        for byte in self.bytes {
-            f.write(HexByte { byte: *byte })?;
+        for &byte in self.bytes {
+            write!(f, "{byte:02X}")?;
         }
         Ok(())
     }
@@ -99,14 +78,11 @@ impl fmt::Display for Line {
 
     fn fmt<W: fmt::Write>(&self, f: &mut fmt::Formatter<W>) -> fmt::Result {
         let index = self.index;
-        let kind = self.kind.word();
+        let kind = self.kind;
         let sector = OrDash { value: self.sector };
         let answer = answer_number(self.answer);
         let first = OrDash {
-            value: match &self.first {
-                Some(bytes) => Some(HexBytes { bytes }),
-                None => None,
-            },
+            value: self.first.as_ref().map(|bytes| HexBytes { bytes }),
         };
         write!(f, "{index} {kind} {sector} {answer} {first}")
     }
