@@ -10,7 +10,7 @@ pub enum LineKind {
 }
 
 // What one record of a sheet came to, as its printed line tells it.
-#[derive(Clone, Copy)]
+#[derive(Clone, Copy, Debug, PartialEq, Eq)]
 pub struct Line {
     // which record of the sheet, counted from 0
     pub index: usize,
