@@ -1,6 +1,6 @@
 -- A record that stands at a place of a sheet, and what is read there. Assumes nothing.
-use Rattle.std.proofs.Common.{◌≡◌, ℕ, ◌+◌, ◌-◌, ◌*◌, ◌/◌, ◌%◌, ◌<◌, ◌≤◌, List, ◌∷◌, ◌++◌, length, get_or, take, drop, Some, None, sym, ap, ◌∙◌, subst, ⊎_elim, add-zero, arith, length-append, length-drop, take-append-drop, length-take, take_at}
-use Rattle.std.proofs.lemmas.List.{get_or-take, get_or-drop, get_or_past, drop-drop, drop_more, length-take-le}
+use Rattle.std.proofs.Common.{◌≡◌, ℕ, ◌+◌, ◌-◌, ◌*◌, ◌/◌, ◌%◌, ◌<◌, ◌≤◌, List, ◌∷◌, ◌++◌, length, get_or, take, drop, Some, None, sym, ap, ◌∙◌, subst, ⊎_elim, add-zero, arith, lit<, length-append, length-drop, take-append-drop, length-take, take_at}
+use Rattle.std.proofs.lemmas.List.{take_rest, get_or-take, get_or-drop, get_or_past, drop-drop, drop_more, length-take-le}
 use Rattle.std.proofs.lemmas.Bool.{cases_lt}
 use Rattle.sheets.specs.Records.{Said, both, body, written, Stands}
 use Rattle.sheets.specs.Reading.{word, body_said}
@@ -53,21 +53,17 @@ said_at s at r h =
     ∙ ap (body_said (at + 2)) (take_at (body r) _ (word s at) (sym (word_at s at r _ e)))
     ∙ said_body at r h.formed h.placed
 
-part : (at n : ℕ) → at + 2 + n - (at + 2) ≡ n
-part at n = omega arith
-
-pub none_stands : (s : List ℕ) (at n : ℕ) → n ≡ word s at → None ≡ body_said (at + 2) (take (at + 2 + n - (at + 2)) (drop (at + 2) s)) → (r : Said) → Stands s at r → ⊥
-none_stands s at n w e r h =
-    none_some r (e ∙ ap (λ z. body_said (at + 2) (take z (drop (at + 2) s))) (part at n ∙ w) ∙ said_at s at r h)
+none_stands : (s : List ℕ) (at n : ℕ) → n ≡ word s at → None ≡ body_said (at + 2) (take n (drop (at + 2) s)) → (r : Said) → Stands s at r → ⊥
+none_stands s at n w e r h = none_some r (e ∙ ap (λ z. body_said (at + 2) (take z (drop (at + 2) s))) w ∙ said_at s at r h)
 
 found_good : (s : List ℕ) (at n : ℕ) (r : Said) → ((i : ℕ) → get_or s i 0 < 256) → n ≡ word s at → n ≤ length s - (at + 2)
-    → Some r ≡ body_said (at + 2) (take (at + 2 + n - (at + 2)) (drop (at + 2) s)) → Good at (take n (drop (at + 2) s)) (Some r)
+    → Some r ≡ body_said (at + 2) (take n (drop (at + 2) s)) → Good at (take n (drop (at + 2) s)) (Some r)
 found_good s at n r small w l e =
-    subst (Good at (take n (drop (at + 2) s))) (sym (e ∙ ap (λ z. body_said (at + 2) (take z (drop (at + 2) s))) (part at n)))
+    subst (Good at (take n (drop (at + 2) s))) (sym e)
     (good_body at (take n (drop (at + 2) s)) (small_part s small n (at + 2)) (omega (arith, length-take n (drop (at + 2) s), small at, small (at + 1))))
 
-pub found_stands : (s : List ℕ) (at n : ℕ) (r : Said) → ((i : ℕ) → get_or s i 0 < 256) → 2 ≤ length s - at → n ≡ word s at → n ≤ length s - (at + 2)
-    → Some r ≡ body_said (at + 2) (take (at + 2 + n - (at + 2)) (drop (at + 2) s)) → Stands s at r × (at + 2 + n ≡ at + length (written r))
+found_stands : (s : List ℕ) (at n : ℕ) (r : Said) → ((i : ℕ) → get_or s i 0 < 256) → 2 ≤ length s - at → n ≡ word s at → n ≤ length s - (at + 2)
+    → Some r ≡ body_said (at + 2) (take n (drop (at + 2) s)) → Stands s at r × (at + 2 + n ≡ at + length (written r))
 found_stands s at n r small two w l e =
     let g = found_good s at n r small w l e in
     let b = take n (drop (at + 2) s) in
@@ -84,3 +80,26 @@ found_stands s at n r small two w l e =
       },
       omega (arith, len),
     )
+
+-- the body that the code reads: as many bytes as the two before it say
+module _ (s l t b : List ℕ) (at n : ℕ) (el : l ≡ take 2 (take (length s - at) (drop at s))) (et : t ≡ drop 2 (take (length s - at) (drop at s)))
+    (en : n ≡ get_or l 0 0 * 256 + get_or l 1 0) (eb : b ≡ take (n - 0) t) where
+  word_read : n ≡ word s at
+  word_read =
+      let e0 : get_or l 0 0 ≡ get_or s at 0 = rw (el, take_rest s at, get_or-take 2 (drop at s) 0 0 (lit< tt), get_or-drop at s 0 0, add-zero at) in
+      let e1 : get_or l 1 0 ≡ get_or s (at + 1) 0 = rw (el, take_rest s at, get_or-take 2 (drop at s) 1 0 (lit< tt), get_or-drop at s 1 0) in
+      cc
+
+  body_read : b ≡ take n (drop (at + 2) s)
+  body_read = eb ∙ rw (et, take_rest s at, drop-drop 2 at s) (ap (λ z. take z (drop (at + 2) s)) (omega arith))
+
+  pub none_read : None ≡ body_said (at + 2) b → (r : Said) → Stands s at r → ⊥
+  none_read e = none_stands s at n word_read (e ∙ ap (body_said (at + 2)) body_read)
+
+  pub found_read : (r : Said) → ((i : ℕ) → get_or s i 0 < 256) → at < length s → length t + 2 ≡ length (take (length s - at) (drop at s)) → n ≤ length t
+      → Some r ≡ body_said (at + 2) b → Stands s at r × (at + 2 + length b ≡ at + length (written r))
+  found_read r small h two k e =
+      let room : 2 + n ≤ length s - at = omega (arith, length-take-le (length s - at) (drop at s), length-drop at s) in
+      let f = found_stands s at n r small (omega arith) word_read (omega arith) (e ∙ ap (body_said (at + 2)) body_read) in
+      let same : length b ≡ n = ap length body_read ∙ length-take-le n (drop (at + 2) s) (omega (arith, length-drop (at + 2) s)) in
+      (f.0, ap (λ z. at + 2 + z) same ∙ f.1)

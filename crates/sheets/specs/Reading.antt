@@ -5,12 +5,20 @@ use Rattle.sector.specs.declared.refusal.Refusal.TheVariants.{SheetBroken}
 use Rattle.sheets.specs.declared.records.Found.{Found}
 use Rattle.sheets.specs.Records.{Said, setting, write, read, said, written, key_length, Stands}
 
+-- no record stands at a place
+abbrev pub NoneStands : List ℕ → ℕ → Type 0
+NoneStands s at = (r : Said) → Stands s at r → ⊥
+
+-- a record stands at a place, and the next place is after it
+abbrev pub FoundAt : List ℕ → ℕ → Found → Type 0
+FoundAt s at f = Stands s at (said f.«record») × (f.next ≡ at + length (written (said f.«record»)))
+
 -- what is read at a place: the record that stands there and the place after it, none exactly at the end, and a broken
 -- sheet exactly where, before the end, no record stands
 abbrev pub NextIs : List ℕ → ℕ → Result (Option Found) Refusal → Type 0
 NextIs s at (Ok None) = length s ≤ at
-NextIs s at (Ok (Some f)) = (at < length s) × Stands s at (said f.«record») × (f.next ≡ at + length (written (said f.«record»)))
-NextIs s at (Err e) = (e ≡ SheetBroken) × (at < length s) × ((r : Said) → Stands s at r → ⊥)
+NextIs s at (Ok (Some f)) = (at < length s) × FoundAt s at f
+NextIs s at (Err e) = (e ≡ SheetBroken) × (at < length s) × NoneStands s at
 
 -- the number in two bytes
 abbrev pub word : List ℕ → ℕ → ℕ

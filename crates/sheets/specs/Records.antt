@@ -12,7 +12,7 @@ pub data Said : Type 0 where
 
 -- what a record of the code says now
 abbrev pub said : Record → Said
-said (Setting cipher hash size count key) = setting cipher hash size count key
+said (Setting v) = setting v.cipher v.hash v.length v.count v.key
 said (Write sector text at) = write sector at text.now
 said (Read sector) = read sector
 

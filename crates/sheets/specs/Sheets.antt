@@ -1,6 +1,9 @@
 -- The records of a whole sheet. Assumes nothing.
-use Rattle.std.specs.Prelude.{◌≡◌, ℕ, ◌+◌, ◌<◌, Bool, true, false, ◌&&◌, List, [], ◌∷◌, ◌++◌, length, take, drop, ◌==◌, nat_le, slice_index}
+use Rattle.std.specs.Prelude.{◌≡◌, ℕ, ◌+◌, ◌<◌, Bool, true, false, cond, ◌&&◌, Ok, Err, Result, List, [], ◌∷◌, ◌++◌, length, take, drop, ◌==◌, nat_le, slice_index}
 use Rattle.std.specs.List.{flat_map}
+use Rattle.sector.specs.declared.refusal.Refusal.{Refusal}
+use Rattle.sector.specs.declared.refusal.Refusal.TheVariants.{SheetBroken}
+use Rattle.sheets.specs.Reading.{NoneStands}
 use Rattle.sheets.specs.Records.{Said, write, written, Stands}
 
 -- a sheet that can be read: not empty, of at most 61,440 bytes, and of version 1
@@ -15,13 +18,17 @@ Lie s at (r ∷ rs) to = Stands s at r × Lie s (at + length (written r)) rs to
 -- the records end at a place: there the sheet ends, or it is broken since no record stands there
 abbrev pub Ends : List ℕ → ℕ → Bool → Type 0
 Ends s to false = to ≡ length s
-Ends s to true = (to < length s) × ((r : Said) → Stands s to r → ⊥)
+Ends s to true = (to < length s) × NoneStands s to
 
 -- rs are the records of the sheet s, and `broken` says whether it is broken after them; one that cannot be read is broken
 -- at once
 pub record RecordsOf (s : List ℕ) (rs : List Said) (broken : Bool) : Type 0 where
   pub unopened : opened s ≡ false → (rs ≡ []) × (broken ≡ true)
   pub in_order : opened s ≡ true → (to : ℕ) × Lie s 1 rs to × Ends s to broken
+
+-- what is said of a sheet's end: whether it is broken there
+abbrev pub end_of : Bool → Result (Unit {0}) Refusal
+end_of broken = cond broken (Err SheetBroken) (Ok tt)
 
 -- at most one record stands at a place
 abbrev pub OneStands : Type 0

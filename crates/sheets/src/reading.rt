@@ -1,8 +1,9 @@
-ghost use Rattle.std.specs.Prelude.{◌≡◌, map, IfOk};
+ghost use Rattle.std.specs.Prelude.{◌≡◌, Bool, map, IfOk};
 ghost use Rattle.sheets.specs.Records.{said};
-ghost use Rattle.sheets.specs.Sheets.{opened, RecordsOf, OneStands, TextIsPart, OneReading, ReadsBack};
+ghost use Rattle.sheets.specs.Sheets.{opened, RecordsOf, end_of, OneStands, TextIsPart, OneReading, ReadsBack};
 
 use crate::records::{Record, next_record};
+use sector::refusal::Refusal;
 use std::alloc::{AllocError, Global};
 
 const VERSION: u8 = 1;
@@ -10,43 +11,40 @@ const VERSION: u8 = 1;
 // How many bytes a sheet may have.
 pub const LONGEST: usize = 61440;
 
-// The records of a sheet in their order, and whether it is broken after them.
+// The records of a sheet in their order, and how it ends after them: soundly, or broken.
 #[derive(Drop)]
 pub struct Sheet<'a> {
     pub records: Vec<Record<'a>>,
-    pub broken: bool,
+    pub end: Result<(), Refusal>,
 }
 
 // Whether a sheet can be read at all, by its size and its version.
 fn opens(sheet: &[u8]) -> bool
     ensures { result ≡ opened sheet.now }
 {
-    sheet.len() >= 1 && sheet.len() <= LONGEST && sheet[0] == VERSION
+    sheet.first() == Some(&VERSION) && sheet.len() <= LONGEST
 }
 
 // The records of a sheet.
 pub fn read_sheet<'a>(heap: Global, sheet: &'a [u8]) -> Result<Sheet<'a>, AllocError>
-    ensures { IfOk result (λ t. RecordsOf sheet.now (map said t.records.items) t.broken) }
+    ensures { IfOk result (λ t. (broken : Bool) × RecordsOf sheet.now (map said t.records.items) broken × (t.end ≡ end_of broken)) }
 {
     let mut records = Vec::new(heap);
     if !opens(sheet) {
         return Ok(Sheet {
             records,
-            broken: true,
+            end: Err(Refusal::SheetBroken),
         });
     }
-    let mut at = 1;
-    let broken = loop {
-        match next_record(sheet, at) {
-            Ok(None) => break false,
-            Err(_) => break true,
-            Ok(Some(found)) => {
-                records.push(found.record)?;
-                at = found.next;
-            }
-        }
-    };
-    Ok(Sheet { records, broken })
+    let mut next = next_record(sheet, 1);
+    while let Ok(Some(found)) = next {
+        records.push(found.record)?;
+        next = next_record(sheet, found.next);
+    }
+    Ok(Sheet {
+        records,
+        end: next.map(|_| ()),
+    })
 }
 
 // At most one record stands at a place, a write's text is the part of the sheet at its place, a sheet has one list of

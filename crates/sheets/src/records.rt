@@ -1,22 +1,26 @@
-ghost use Rattle.std.specs.Prelude.{◌≡◌, ◌+◌, ◌-◌, ◌*◌, ◌<◌, ◌≤◌, length, slice_index, slice_range};
-ghost use Rattle.sheets.specs.Records.{said};
-ghost use Rattle.sheets.specs.Reading.{NextIs, body_said};
+ghost use Rattle.std.specs.Prelude.{◌≡◌, ◌+◌, ◌^◌, ◌<◌, length, MatchOption};
 ghost use Rattle.std.specs.Option.{option_map};
+ghost use Rattle.sheets.specs.Reading.{NoneStands, FoundAt, NextIs, body_said};
+ghost use Rattle.sheets.specs.Records.{said};
 
 use ciphers::choice::AnyCipher;
 use ciphers::function::BlockFunction;
 use sector::refusal::Refusal;
 
+// What a setting says: the numbers as they lie on the sheet, since one with an unknown cipher or hash does not break it.
+#[derive(Clone, Copy, Debug, PartialEq, Eq)]
+pub struct Values {
+    pub cipher: u8,
+    pub hash: u8,
+    pub length: u16,
+    pub count: u16,
+    pub key: [u8; 16],
+}
+
 // A record of a sheet. A write's text is the part of the sheet itself, with its place there.
-#[derive(Clone, Copy)]
+#[derive(Clone, Copy, Debug, PartialEq, Eq)]
 pub enum Record<'a> {
-    Setting {
-        cipher: u8,
-        hash: u8,
-        length: u16,
-        count: u16,
-        key: [u8; 16],
-    },
+    Setting(Values),
     Write {
         sector: u16,
         text: &'a [u8],
@@ -28,57 +32,50 @@ pub enum Record<'a> {
 }
 
 // A record and the place after it.
-#[derive(Clone, Copy)]
+#[derive(Clone, Copy, Debug, PartialEq, Eq)]
 pub struct Found<'a> {
     pub record: Record<'a>,
     pub next: usize,
 }
 
-// The number in the two bytes from a place on.
-fn word(bytes: &[u8], i: usize) -> u16
-    requires { i + 1 < length bytes.now }
-    ensures { result ≡ slice_index bytes.now i * 256 + slice_index bytes.now (i + 1) }
+// The record whose body stands at a place of the sheet.
+fn record_of<'a>(body: &'a [u8], at: usize) -> Option<Record<'a>>
+    requires { at + length body.now < 2 ^ 64 }
+    ensures { option_map said result ≡ body_said at body.now }
 {
-    u16::from(bytes[i]) * 256 + u16::from(bytes[i + 1])
-}
-
-// The key that the bytes are.
-fn key_of(bytes: &[u8]) -> [u8; 16]
-    requires { length bytes.now ≡ 16 }
-    ensures { result ≡ bytes.now }
-{
-    let mut key = [0; 16];
-    key.copy_from_slice(bytes);
-    key
-}
-
-// The record whose body is the bytes of the sheet from a place to another.
-fn record_of<'a>(sheet: &'a [u8], from: usize, to: usize) -> Option<Record<'a>>
-    requires { (from ≤ to) × (to ≤ length sheet.now) }
-    ensures { option_map said result ≡ body_said from (slice_range sheet.now from to) }
-{
-    let body = &sheet[from..to];
-    if body.len() == 0 {
-        return None;
-    }
-    match body[0] {
-        1 if body.len() == 7 + AnyCipher::KEY_LENGTH => Some(Record::Setting {
-            cipher: body[1],
-            hash: body[2],
-            length: word(body, 3),
-            count: word(body, 5),
-            key: key_of(&body[7..]),
+    match body {
+        [1, cipher, hash, l1, l0, c1, c0, key @ ..] if key.len() == AnyCipher::KEY_LENGTH => {
+            Some(Record::Setting(Values {
+                cipher: *cipher,
+                hash: *hash,
+                length: u16::from_be_bytes([*l1, *l0]),
+                count: u16::from_be_bytes([*c1, *c0]),
+                key: <[u8; 16]>::try_from(key).ok()?,
+            }))
+        }
+        [2, s1, s0, text @ ..] => Some(Record::Write {
+            sector: u16::from_be_bytes([*s1, *s0]),
+            text,
+            at: at + 3,
         }),
-        2 if body.len() >= 3 => Some(Record::Write {
-            sector: word(body, 1),
-            text: &body[3..],
-            at: from + 3,
-        }),
-        3 if body.len() == 3 => Some(Record::Read {
-            sector: word(body, 1),
+        [3, s1, s0] => Some(Record::Read {
+            sector: u16::from_be_bytes([*s1, *s0]),
         }),
         _ => None,
     }
+}
+
+// The record that stands at a place of the sheet, and the place after it.
+fn found_at<'a>(sheet: &'a [u8], at: usize) -> Option<Found<'a>>
+    requires { at < length sheet.now }
+    ensures { MatchOption result (NoneStands sheet.now at) (FoundAt sheet.now at) }
+{
+    let (length, rest) = sheet[at..].split_first_chunk()?;
+    let body = rest.get(..usize::from(u16::from_be_bytes(*length)))?;
+    Some(Found {
+        record: record_of(body, at + 2)?,
+        next: at + 2 + body.len(),
+    })
 }
 
 // The record that stands at a place of the sheet, and the place after it; none at the end. Where no record stands, the
@@ -89,19 +86,5 @@ pub fn next_record<'a>(sheet: &'a [u8], at: usize) -> Result<Option<Found<'a>>, 
     if sheet.len() <= at {
         return Ok(None);
     }
-    if sheet.len() - at < 2 {
-        return Err(Refusal::SheetBroken);
-    }
-    let length = word(sheet, at) as usize;
-    let from = at + 2;
-    if sheet.len() - from < length {
-        return Err(Refusal::SheetBroken);
-    }
-    match record_of(sheet, from, from + length) {
-        Some(record) => Ok(Some(Found {
-            record,
-            next: from + length,
-        })),
-        None => Err(Refusal::SheetBroken),
-    }
+    found_at(sheet, at).map(Some).ok_or(Refusal::SheetBroken)
 }
