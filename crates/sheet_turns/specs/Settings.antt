@@ -1,18 +1,10 @@
 -- Which settings are admitted. Assumes nothing.
 use Rattle.std.specs.Prelude.{ℕ, ◌*◌, ◌%◌, Bool, cond, ◌&&◌, List, Some, None, Option, ◌==◌, nat_le}
 use Rattle.ciphers.specs.declared.choice.Cipher.{Cipher}
-use Rattle.ciphers.specs.declared.choice.Cipher.TheVariants.{Aes, Speck}
+use Rattle.ciphers.specs.Choice.{cipher_numbered}
 use Rattle.hashing.specs.declared.choice.AnyHash.{AnyHash}
-use Rattle.hashing.specs.declared.choice.AnyHash.TheVariants.{Horner, Brw}
+use Rattle.hashing.specs.Choice.{hash_numbered}
 use Rattle.sheet_turns.specs.declared.settings.Setting.{Setting}
-
--- the cipher of a number
-abbrev pub cipher_by : ℕ → Option Cipher
-cipher_by n = cond (n == 1) (Some Aes) (cond (n == 2) (Some Speck) None)
-
--- the hash of a number
-abbrev pub hash_by : ℕ → Option AnyHash
-hash_by n = cond (n == 1) (Some Horner) (cond (n == 2) (Some Brw) None)
 
 -- sectors of a length that stores have, one at least, of 32,768 bytes in all at most
 abbrev pub figures : ℕ → ℕ → Bool
@@ -26,4 +18,4 @@ set_to (Some c) (Some h) l n k = Some (record { cipher = c; hash = h; length = l
 
 -- the setting that these values are: none if the cipher, the hash or the figures are not admitted
 abbrev pub admitted : ℕ → ℕ → ℕ → ℕ → List ℕ → Option Setting
-admitted c h l n k = cond (figures l n) (set_to (cipher_by c) (hash_by h) l n k) None
+admitted c h l n k = cond (figures l n) (set_to (cipher_numbered c) (hash_numbered h) l n k) None

@@ -3,19 +3,19 @@ ghost use Rattle.sheets.specs.Records.{said};
 ghost use Rattle.sheet_turns.specs.Since.{UnderSetting, StillWaiting};
 ghost use Rattle.sheet_turns.specs.Table.{table, does};
 
-use crate::settings::{Setting, admitted};
+use crate::settings::Setting;
 use sector::refusal::Refusal;
 use sheets::records::Record;
 
 // The state of a run: waiting for a setting, or running under one.
-#[derive(Clone, Copy)]
+#[derive(Clone, Copy, Debug, PartialEq, Eq)]
 pub enum Run {
     Waiting,
     Running(Setting),
 }
 
 // What a record does: it is answered at once, or it is a call that is put to the store.
-#[derive(Clone, Copy)]
+#[derive(Clone, Copy, Debug, PartialEq, Eq)]
 pub enum Effect<'a> {
     Answered(Result<(), Refusal>),
     Write { sector: u16, text: &'a [u8] },
@@ -28,21 +28,12 @@ impl Run {
         ensures { (self.new, does result) ≡ table self.old (said «record».entry) }
     {
         match (&mut *self, record) {
-            (
-                Run::Waiting,
-                Record::Setting {
-                    cipher,
-                    hash,
-                    length,
-                    count,
-                    key,
-                },
-            ) => match admitted(cipher, hash, length, count, key) {
-                Some(setting) => {
+            (Run::Waiting, Record::Setting(values)) => match Setting::try_from(values) {
+                Ok(setting) => {
                     *self = Run::Running(setting);
                     Effect::Answered(Ok(()))
                 }
-                None => Effect::Answered(Err(Refusal::Figures)),
+                Err(refusal) => Effect::Answered(Err(refusal)),
             },
             (Run::Running(_), Record::Write { sector, text, .. }) => Effect::Write { sector, text },
             (Run::Running(setting), Record::Read { sector }) => Effect::Read {
