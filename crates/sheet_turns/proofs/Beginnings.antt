@@ -1,5 +1,5 @@
 -- One setting, and the calls since. Assumes nothing.
-use Rattle.std.proofs.Common.{◌≡◌, ℕ, List, [], ◌∷◌, ◌++◌, replicate, Some, None, Option, sym, refl, ap, ◌∙◌, arith}
+use Rattle.std.proofs.Common.{◌≡◌, ℕ, List, [], ◌∷◌, ◌++◌, replicate, Some, None, Option, refl, ap, ◌∙◌}
 use Rattle.std.specs.List.{AllByRecursion}
 use Rattle.stacks.specs.Calls.{Ask, ask_read, ask_write}
 use Rattle.sheets.specs.Records.{Said, setting, write, read}
@@ -9,12 +9,6 @@ use Rattle.sheet_turns.specs.Settings.{admitted}
 use Rattle.sheet_turns.specs.Table.{begun, after, calls, puts_of}
 use Rattle.sheet_turns.specs.Since.{Idle, since, Begins, UnderSetting, StillWaiting}
 use Rattle.sheet_turns.proofs.Following.{stays}
-
-apart : (g : Setting) → Waiting ≡ Running g → ⊥
-apart g e = let z : ◌≡◌ {A = ℕ} 0 1 = cc in omega arith
-
-same_setting : (f g : Setting) → Running f ≡ Running g → f ≡ g
-same_setting f g e = cc
 
 running_calls : (g : Setting) (rs : List Said) → calls (Running g) rs ≡ since g rs
 running_calls g [] = refl
@@ -42,7 +36,8 @@ begin : (c h l n : ℕ) (k : List ℕ) (rs : List Said) (g : Setting) → (after
     → (o : Option Setting) → admitted c h l n k ≡ o → after (begun o).0 rs ≡ Running g → Begins (setting c h l n k ∷ rs) g (puts_of (begun o).1 ++ calls (begun o).0 rs)
 begin c h l n k rs g rest None a e = idle_first (setting c h l n k) rs g (calls Waiting rs) a (rest e)
 begin c h l n k rs g rest (Some f) a e =
-    let same = same_setting f g (sym (stays f rs) ∙ e) in
+    let still = stays f rs in
+    let same : f ≡ g = cc in
     record {
       earlier = [];
       later = rs;
@@ -58,7 +53,7 @@ begin c h l n k rs g rest (Some f) a e =
     }
 
 pub under_setting : UnderSetting
-under_setting [] g e = absurd (apart g e)
+under_setting [] g e = cc
 under_setting (setting c h l n k ∷ rs) g e = begin c h l n k rs g (under_setting rs g) (admitted c h l n k) refl e
 under_setting (write s a t ∷ rs) g e = idle_first (write s a t) rs g (calls Waiting rs) tt (under_setting rs g e)
 under_setting (read s ∷ rs) g e = idle_first (read s) rs g (calls Waiting rs) tt (under_setting rs g e)
@@ -66,7 +61,7 @@ under_setting (read s ∷ rs) g e = idle_first (read s) rs g (calls Waiting rs) 
 wait : (c h l n : ℕ) (k : List ℕ) (rs : List Said) → (after Waiting rs ≡ Waiting → AllByRecursion Idle rs × (calls Waiting rs ≡ []))
     → (o : Option Setting) → admitted c h l n k ≡ o → after (begun o).0 rs ≡ Waiting → AllByRecursion Idle (setting c h l n k ∷ rs) × (puts_of (begun o).1 ++ calls (begun o).0 rs ≡ [])
 wait c h l n k rs rest None a e = let w = rest e in ((a, w.0), w.1)
-wait c h l n k rs rest (Some f) a e = absurd (apart f (sym e ∙ stays f rs))
+wait c h l n k rs rest (Some f) a e = let still = stays f rs in cc
 
 pub still_waiting : StillWaiting
 still_waiting [] e = (tt, refl)
