@@ -1,6 +1,6 @@
-ghost use Rattle.std.specs.Prelude.{◌≡◌, map, IfOk};
+ghost use Rattle.std.specs.Prelude.{◌≡◌, IfOk};
 ghost use Rattle.stacks.specs.Calls.{ask};
-ghost use Rattle.sheet_plans.specs.Plans.{eight, answer_of, shown_of, finished as finished_by};
+ghost use Rattle.sheet_plans.specs.Plans.{answer_of, shown_of, lines_by};
 
 use crate::plans::Note;
 use lines::line::Line;
@@ -8,66 +8,37 @@ use sector::refusal::Refusal;
 use stacks::call::{Answer, Call, Entry};
 use std::alloc::{AllocError, Global};
 
-// The first eight of the bytes, if there are so many.
-fn first_eight(bytes: &[u8]) -> Option<[u8; 8]>
-    ensures { result ≡ eight bytes.now }
+// What a line tells of a call: its answer, and the first bytes of an accepted read.
+fn outcome(entry: &Entry) -> (Result<(), Refusal>, Option<[u8; 8]>)
+    ensures { result ≡ (answer_of entry.now.answer, shown_of entry.now.answer (ask entry.now.call)) }
 {
-    if bytes.len() < 8 {
-        return None;
-    }
-    let mut first = [0; 8];
-    first.copy_from_slice(&bytes[0..8]);
-    Some(first)
-}
-
-// The answer of a call as a line has it.
-fn told(answer: Answer) -> Result<(), Refusal>
-    ensures { result ≡ answer_of answer }
-{
-    match answer {
-        Answer::Refused(fault) => Err(fault.refusal),
-        _ => Ok(()),
-    }
-}
-
-// What a call shows: the first bytes of an accepted read.
-fn shown(answer: Answer, call: &Call) -> Option<[u8; 8]>
-    ensures { result ≡ shown_of answer (ask call.now) }
-{
-    match (answer, call) {
-        (Answer::Done, Call::Read(_, buffer)) => first_eight(buffer.as_slice()),
-        _ => None,
-    }
-}
-
-// A note's line, with the answer of its call.
-fn finished(note: Note, calls: &[Entry]) -> Line
-    ensures { result ≡ finished_by note calls.now }
-{
-    match note.call {
-        None => note.line,
-        Some(k) => {
-            if k >= calls.len() {
-                return note.line;
-            }
-            Line {
-                index: note.line.index,
-                kind: note.line.kind,
-                sector: note.line.sector,
-                answer: told(calls[k].answer),
-                first: shown(calls[k].answer, &calls[k].call),
-            }
+    match (entry.answer, &entry.call) {
+        (Some(Answer::Transfer(Err(fault))), _) => (Err(fault.refusal), None),
+        (Some(Answer::Transfer(Ok(()))), Call::Read(_, buffer)) => {
+            (Ok(()), buffer.first_chunk().copied())
         }
+        _ => (Ok(()), None),
     }
 }
 
-// The lines of notes, with the answers of the calls.
+// The lines of notes, where each note without an answer takes the next of the calls.
 pub fn lines_of(heap: Global, notes: &[Note], calls: &[Entry]) -> Result<Vec<Line>, AllocError>
-    ensures { IfOk result (λ v. v.items ≡ map (λ n. finished_by n calls.now) notes.now) }
+    ensures { IfOk result (λ v. v.items ≡ lines_by 0 notes.now calls.now) }
 {
     let mut lines = Vec::new(heap);
-    for note in notes {
-        lines.push(finished(*note, calls))?;
+    let mut answered = calls.iter();
+    for (index, note) in notes.iter().enumerate() {
+        let (answer, first) = match note.answer {
+            Some(answer) => (answer, None),
+            None => answered.next().map_or((Ok(()), None), outcome),
+        };
+        lines.push(Line {
+            index,
+            kind: note.kind,
+            sector: note.sector,
+            answer,
+            first,
+        })?;
     }
     Ok(lines)
 }

@@ -1,20 +1,22 @@
-ghost use Rattle.std.specs.Prelude.{◌≡◌, ◌++◌, map, length, IfOk, Some};
+ghost use Rattle.std.specs.Prelude.{◌≡◌, ◌++◌, map, IfOk};
 ghost use Rattle.stacks.specs.Calls.{asks};
 ghost use Rattle.sheets.specs.Records.{said};
 ghost use Rattle.sheet_turns.specs.Table.{does, puts_of};
-ghost use Rattle.sheet_plans.specs.Plans.{call_at, call_asked, note_of, Planned};
+ghost use Rattle.sheet_plans.specs.Plans.{call_asked, note_of, Planned};
 
-use lines::line::{Line, LineKind};
+use lines::line::LineKind;
+use sector::refusal::Refusal;
 use sheet_turns::turns::{Effect, Run};
 use sheets::records::Record;
-use stacks::call::{Answer, Call, Entry};
+use stacks::call::{Call, Entry};
 use std::alloc::{AllocError, Global};
 
-// A line, and the number of the call that answers it, if one does.
-#[derive(Clone, Copy)]
+// What is known of a record's line before the calls are put: its kind and sector, and the answer unless a call gives it.
+#[derive(Clone, Copy, Debug, PartialEq, Eq)]
 pub struct Note {
-    pub line: Line,
-    pub call: Option<usize>,
+    pub kind: LineKind,
+    pub sector: Option<u16>,
+    pub answer: Option<Result<(), Refusal>>,
 }
 
 // The records of a run taken in turn: the state after them, a note for each, and the calls to be put to the store.
@@ -42,46 +44,33 @@ fn call_of(heap: Global, effect: Effect) -> Result<Option<Call>, AllocError>
     }
 }
 
-// Adds the call that an effect puts, and answers its number.
-fn put(heap: Global, effect: Effect, calls: &mut Vec<Entry>) -> Result<Option<usize>, AllocError>
-    ensures { IfOk result (λ k. (asks calls.new.items ≡ asks calls.old.items ++ puts_of (does effect.entry))
-        × (k ≡ call_at (puts_of (does effect.entry)) (length calls.old.items))) }
+// Adds the call that an effect puts.
+fn put(heap: Global, effect: Effect, calls: &mut Vec<Entry>) -> Result<(), AllocError>
+    ensures { IfOk result (λ u. asks calls.new.items ≡ asks calls.old.items ++ puts_of (does effect.entry)) }
 {
-    match call_of(heap, effect)? {
-        None => Ok(None),
-        Some(call) => {
-            let number = calls.len();
-            calls.push(Entry {
-                call,
-                answer: Answer::Waiting,
-            })?;
-            Ok(Some(number))
-        }
+    if let Some(call) = call_of(heap, effect)? {
+        calls.push(Entry { call, answer: None })?;
     }
+    Ok(())
 }
 
-// The note of a record by what it does; a call's answer is filled in later.
-fn noted(index: usize, record: Record, effect: Effect, call: Option<usize>) -> Note
-    ensures { result ≡ note_of index (said «record».entry) (does effect.entry) call }
+// The note of a record by what it does.
+fn noted(record: Record, effect: Effect) -> Note
+    ensures { result ≡ note_of (said «record».entry) (does effect.entry) }
 {
     let (kind, sector) = match record {
-        Record::Setting { .. } => (LineKind::Setting, None),
+        Record::Setting(_) => (LineKind::Setting, None),
         Record::Write { sector, .. } => (LineKind::Write, Some(sector)),
         Record::Read { sector } => (LineKind::Read, Some(sector)),
     };
     let answer = match effect {
-        Effect::Answered(answer) => answer,
-        _ => Ok(()),
+        Effect::Answered(answer) => Some(answer),
+        _ => None,
     };
     Note {
-        line: Line {
-            index,
-            kind,
-            sector,
-            answer,
-            first: None,
-        },
-        call,
+        kind,
+        sector,
+        answer,
     }
 }
 
@@ -94,8 +83,8 @@ pub fn planned(heap: Global, records: &[Record]) -> Result<Plan, AllocError>
     let mut calls = Vec::new(heap);
     for record in records {
         let effect = run.turn(*record);
-        let call = put(heap, effect, &mut calls)?;
-        notes.push(noted(notes.len(), *record, effect, call))?;
+        put(heap, effect, &mut calls)?;
+        notes.push(noted(*record, effect))?;
     }
     Ok(Plan { run, notes, calls })
 }
