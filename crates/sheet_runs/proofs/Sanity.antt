@@ -6,7 +6,9 @@ use Rattle.hashing.specs.declared.choice.AnyHash.{AnyHash}
 use Rattle.sheets.specs.Records.{Said, setting, write, read}
 use Rattle.sheet_turns.specs.declared.turns.Run.{Run}
 use Rattle.sheet_turns.specs.declared.turns.Run.TheVariants.{Waiting, Running}
-use Rattle.sheet_turns.specs.Settings.{cipher_by, hash_by, figures, set_to}
+use Rattle.ciphers.specs.Choice.{cipher_numbered}
+use Rattle.hashing.specs.Choice.{hash_numbered}
+use Rattle.sheet_turns.specs.Settings.{figures, set_to}
 use Rattle.sheet_turns.specs.Table.{begun, table, after}
 use Rattle.sheet_runs.specs.Puts.{Sane}
 
@@ -16,7 +18,7 @@ sane_set (Some c) None l n k e = tt
 sane_set (Some c) (Some h) l n k e = e
 
 sane_table : (u : Run) (r : Said) → Sane u → Sane (table u r).0
-sane_table Waiting (setting c h l n k) s = cond_both (figures l n) (set_to (cipher_by c) (hash_by h) l n k) None (λ o. Sane (begun o).0) (λ e. sane_set (cipher_by c) (hash_by h) l n k e) (λ e. tt)
+sane_table Waiting (setting c h l n k) s = cond_both (figures l n) (set_to (cipher_numbered c) (hash_numbered h) l n k) None (λ o. Sane (begun o).0) (λ e. sane_set (cipher_numbered c) (hash_numbered h) l n k e) (λ e. tt)
 sane_table Waiting (write s a t) h = tt
 sane_table Waiting (read s) h = tt
 sane_table (Running g) (setting c h l n k) s = s

@@ -18,7 +18,7 @@ use Rattle.stores.specs.Layers.{enciphering, stacked}
 use Rattle.media.specs.Media.{place, flat_store, flat_figures, within_limits}
 use Rattle.stacks.specs.declared.call.Entry.{Entry}
 use Rattle.stacks.specs.declared.call.Answer.{Answer}
-use Rattle.stacks.specs.declared.call.Answer.TheVariants.{Done, Number, State}
+use Rattle.stacks.specs.declared.call.Answer.TheVariants.{Transfer, Number, State}
 use Rattle.stacks.specs.Calls.{Ask, ask, asks, ask_count, ask_length, ask_layer, ask_state, ask_read, ask_write}
 use Rattle.stacks.specs.Law.{Takes, Shown, ReadAnswer, WriteAnswer, Right, Law}
 use Rattle.stacks.proofs.Descents.{accepted_length}
@@ -118,23 +118,23 @@ module _ (g : Setting) where
 
   accepted_tests : (b d : Bool) (x y : Refusal) → ◌≡◌ {A = Result (Unit {0}) Refusal} (cond b (cond d (Ok tt) (Err x)) (Err y)) (Ok tt) → d ≡ true
   accepted_tests true true x y e = refl
-  accepted_tests true false x y e = let z : ◌≡◌ {A = ℕ} 0 1 = cc in absurd (omega arith)
-  accepted_tests false d x y e = let z : ◌≡◌ {A = ℕ} 0 1 = cc in absurd (omega arith)
+  accepted_tests true false x y e = cc
+  accepted_tests false d x y e = cc
 
   below : (n len : ℕ) → refusal (fresh g) n len ≡ None → n < g.count
   unfolding refused_of
   below n len e = ltb-true n g.count (accepted_tests (eqb len g.length) (ltb n g.count) SectorNumber BufferLength (sym (store_said n len) ∙ ap refused_of e))
 
-  read_fresh : (before : List Ask) (n : ℕ) (xs : List ℕ) (v : Option Fault) (q' : Ask) (a : Answer) → (v ≡ None → n < g.count)
+  read_fresh : (before : List Ask) (n : ℕ) (xs : List ℕ) (v : Option Fault) (q' : Ask) (a : Option Answer) → (v ≡ None → n < g.count)
       → ReadAnswer (flat_of g) before n xs v q' a → ReadAnswer (fresh g) before n xs v q' a
   read_fresh before n xs None q' a h r = (r.0, (r.1.0, r.1.1, shown_fresh before n r.1.0 (h refl) r.1.2))
   read_fresh before n xs (Some f) q' a h r = r
 
-  right_fresh : (before : List Ask) (q q' : Ask) (a : Answer) → Right (flat_of g) before q q' a → Right (fresh g) before q q' a
-  right_fresh before ask_count q' a r = (r.0 ∙ ap Number same_figures.0, r.1)
-  right_fresh before ask_length q' a r = (r.0 ∙ ap Number same_figures.1, r.1)
-  right_fresh before ask_layer q' a r = (r.0 ∙ ap Number same_figures.2, r.1)
-  right_fresh before (ask_state n) q' a r = (r.0 ∙ ap State (same_state n), r.1)
+  right_fresh : (before : List Ask) (q q' : Ask) (a : Option Answer) → Right (flat_of g) before q q' a → Right (fresh g) before q q' a
+  right_fresh before ask_count q' a r = (r.0 ∙ ap (λ z. Some (Number z)) same_figures.0, r.1)
+  right_fresh before ask_length q' a r = (r.0 ∙ ap (λ z. Some (Number z)) same_figures.1, r.1)
+  right_fresh before ask_layer q' a r = (r.0 ∙ ap (λ z. Some (Number z)) same_figures.2, r.1)
+  right_fresh before (ask_state n) q' a r = (r.0 ∙ ap (λ z. Some (State z)) (same_state n), r.1)
   right_fresh before (ask_read n xs) q' a r =
       read_fresh before n xs (refusal (fresh g) n (length xs)) q' a (below n (length xs))
       (subst (λ (v : Option Fault). ReadAnswer (flat_of g) before n xs v q' a) (same_refusal n (length xs)) r)
@@ -151,12 +151,12 @@ module _ (g : Setting) where
 
   -- ---- what a line tells of an answer
 
-  write_by : (n : ℕ) (t : List ℕ) (v : Option Fault) (q' : Ask) (a : Answer) → WriteAnswer n t v q' a → (answer_of a ≡ refused_of v) × (shown_of a q' ≡ None)
+  write_by : (n : ℕ) (t : List ℕ) (v : Option Fault) (q' : Ask) (a : Option Answer) → WriteAnswer n t v q' a → (answer_of a ≡ refused_of v) × (shown_of a q' ≡ None)
   unfolding refused_of
   write_by n t None q' a r = (ap answer_of r.0, ap (λ z. shown_of z q') r.0 ∙ ap read_shown r.1)
   write_by n t (Some f) q' a r = (ap answer_of r.0, ap (λ z. shown_of z q') r.0)
 
-  pub write_outcome : (before : List Ask) (n : ℕ) (t : List ℕ) (q' : Ask) (a : Answer) → Right (fresh g) before (ask_write n t) q' a
+  pub write_outcome : (before : List Ask) (n : ℕ) (t : List ℕ) (q' : Ask) (a : Option Answer) → Right (fresh g) before (ask_write n t) q' a
       → (answer_of a ≡ store_answer g n (length t)) × (shown_of a q' ≡ None)
   write_outcome before n t q' a r =
       let w = write_by n t (refusal (fresh g) n (length t)) q' a r in
@@ -179,16 +179,16 @@ module _ (g : Setting) where
       (λ never. omega (arith, ap length (s.first never), long_deciphered (cipher_of g.cipher g.key) (hash_of g.hash) (tweak n) (replicate g.length 0)))
       (decided (fresh g) before n)
 
-  read_by : figures g.length g.count ≡ true → (before : List Ask) (n : ℕ) (xs : List ℕ) (v : Option Fault) (q' : Ask) (a : Answer) → ReadAnswer (fresh g) before n xs v q' a
+  read_by : figures g.length g.count ≡ true → (before : List Ask) (n : ℕ) (xs : List ℕ) (v : Option Fault) (q' : Ask) (a : Option Answer) → ReadAnswer (fresh g) before n xs v q' a
       → (answer_of a ≡ refused_of v) × Shows g before n (answer_of a) (shown_of a q')
   unfolding refused_of
   read_by f before n xs None q' a r =
       let ys = r.1.0 in
-      let e : shown_of Done q' ≡ Some (take 8 ys) = ap read_shown r.1.1 ∙ cond-true (leb 8 (length ys)) _ _ (le-leb 8 (length ys) (long_shown f before n ys r.1.2)) in
-      (ap answer_of r.0, subst (λ (z : Answer). Shows g before n (answer_of z) (shown_of z q')) (sym r.0) (ys, r.1.2, e))
-  read_by f before n xs (Some t) q' a r = (ap answer_of r.0, subst (λ (z : Answer). Shows g before n (answer_of z) (shown_of z q')) (sym r.0) refl)
+      let e : shown_of (Some (Transfer (Ok tt))) q' ≡ Some (take 8 ys) = ap read_shown r.1.1 ∙ cond-true (leb 8 (length ys)) _ _ (le-leb 8 (length ys) (long_shown f before n ys r.1.2)) in
+      (ap answer_of r.0, subst (λ (z : Option Answer). Shows g before n (answer_of z) (shown_of z q')) (sym r.0) (ys, r.1.2, e))
+  read_by f before n xs (Some t) q' a r = (ap answer_of r.0, subst (λ (z : Option Answer). Shows g before n (answer_of z) (shown_of z q')) (sym r.0) refl)
 
-  pub read_outcome : figures g.length g.count ≡ true → (before : List Ask) (n : ℕ) (q' : Ask) (a : Answer) → Right (fresh g) before (ask_read n (replicate g.length 0)) q' a
+  pub read_outcome : figures g.length g.count ≡ true → (before : List Ask) (n : ℕ) (q' : Ask) (a : Option Answer) → Right (fresh g) before (ask_read n (replicate g.length 0)) q' a
       → (answer_of a ≡ store_answer g n g.length) × Shows g before n (answer_of a) (shown_of a q')
   read_outcome f before n q' a r =
       let w = read_by f before n (replicate g.length 0) (refusal (fresh g) n (length {A = ℕ} (replicate g.length 0))) q' a r in

@@ -1,53 +1,44 @@
-ghost use Rattle.std.specs.Prelude.{◌≡◌, true, OnOk};
-ghost use Rattle.sheet_turns.specs.Settings.{figures};
-ghost use Rattle.sheet_runs.specs.Puts.{AnsweredBy};
-ghost use Rattle.sheet_runs.specs.Lines.{fresh, store_of};
+ghost use Rattle.std.specs.Prelude.{[], ◌∷◌, OnOk};
+ghost use Rattle.stores.specs.Layers.{enciphering, stacked, store};
+ghost use Rattle.sheet_runs.specs.Puts.{AnsweredBy, PutBy, Sane};
 
 use ciphers::function::BlockFunction;
 use hashing::BlockHash;
 use layers::cipher::CipherLayer;
 use media::flat::FlatMedium;
-use sheet_turns::settings::Setting;
+use sheet_turns::turns::Run;
 use stacks::call::Entry;
 use stacks::run::run;
 use stacks::stack::{Next, Zero};
 use std::alloc::{AllocError, Global};
+use stores::store::SectorStore;
 
-// Puts the calls to an enciphering layer over a flat medium on these bytes.
-fn put_on<F: BlockFunction + Drop, H: BlockHash + Drop>(
-    bytes: &mut [u8],
-    count: u16,
-    length: u16,
+// Puts the calls to an enciphering layer over a store. It is generic since the check takes no layer with a chosen cipher
+// over lent memory in code that names their types.
+fn put_through<S: SectorStore + Drop, F: BlockFunction + Drop, H: BlockHash + Drop>(
+    below: S,
     function: F,
     hash: H,
     calls: &mut [Entry],
 )
-    ensures { AnsweredBy (store_of (F.BlockFunction.function function) (H.BlockHash.hash hash) bytes.old count length) calls.old calls.new }
+    ensures { AnsweredBy (stacked (enciphering (F.BlockFunction.function function) (H.BlockHash.hash hash) ∷ []) (store (S.SectorStore.view below))) calls.old calls.new }
 {
-    let medium = FlatMedium::new(bytes, u64::from(count), usize::from(length));
-    let mut layer = CipherLayer::new(medium, function, hash);
-    run::<FlatMedium<'_>, Next<Zero>, CipherLayer<FlatMedium<'_>, F, H>>(&mut layer, calls);
+    let mut layer = CipherLayer::new(below, function, hash);
+    run::<S, Next<Zero>, CipherLayer<S, F, H>>(&mut layer, calls);
 }
 
-// Puts the calls to the store of a setting: an enciphering layer over a zeroed flat medium.
-pub(crate) fn put_calls(
-    heap: Global,
-    setting: Setting,
-    calls: &mut [Entry],
-) -> Result<(), AllocError>
-    requires { figures setting.length setting.count ≡ true }
-    ensures { OnOk result (AnsweredBy (fresh setting) calls.old calls.new) }
+// Puts the calls of a run to the store of its setting: an enciphering layer over a zeroed flat medium.
+pub(crate) fn put_calls(heap: Global, run: Run, calls: &mut [Entry]) -> Result<(), AllocError>
+    requires { Sane run }
+    ensures { OnOk result (PutBy run calls.old calls.new) }
 {
-    let all = usize::from(setting.count) * usize::from(setting.length);
-    let mut bytes = vec![in heap; 0u8; all]?;
+    let Run::Running(setting) = run else {
+        return Ok(());
+    };
+    let length = usize::from(setting.length);
+    let mut bytes = vec![in heap; 0u8; usize::from(setting.count) * length]?;
+    let medium = FlatMedium::new(bytes.as_mut_slice(), u64::from(setting.count), length);
     let function = setting.cipher.keyed(setting.key);
-    put_on(
-        bytes.as_mut_slice(),
-        setting.count,
-        setting.length,
-        function,
-        setting.hash,
-        calls,
-    );
+    put_through(medium, function, setting.hash, calls);
     Ok(())
 }
