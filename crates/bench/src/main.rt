@@ -1,7 +1,7 @@
 #![tactic(auto)]
 
 // Runs the sheet on standard input and prints what came of each of its records.
-ghost use Rattle.std.specs.Prelude.{◌≡◌, IfOk, vec_len};
+ghost use Rattle.std.specs.Prelude.{◌≡◌, ◌≤◌, IfOk, vec_len};
 ghost use Rattle.std.specs.Io.{ReadsAtMost};
 
 use lines::printing::Report;
@@ -18,7 +18,8 @@ fn room(heap: Global) -> Result<Vec<u8>, AllocError>
     vec![in heap; 0; LONGEST + 1]
 }
 
-// Reads until the buffer is full or the input ends, and answers how many bytes there are.
+// Reads until the buffer is full or the input ends, and answers how many bytes there are. It is a loop since `take` and
+// `read_to_end` leave the goal `vec_len c.read_to_end.new.buf ≤ 61441`: they bound nothing for an input of unknown bytes.
 fn fill(input: &mut impl Read, buffer: &mut [u8]) -> io::Result<usize>
     ensures { ReadsAtMost result buffer.new }
 {
@@ -33,10 +34,19 @@ fn fill(input: &mut impl Read, buffer: &mut [u8]) -> io::Result<usize>
     Ok(filled)
 }
 
+// The input, up to as much as there is room for.
+fn read_input(heap: Global, input: &mut impl Read) -> io::Result<Vec<u8>>
+    ensures { IfOk result (λ v. vec_len v ≤ 61441) }
+{
+    let mut bytes = room(heap)?;
+    let count = fill(input, &mut bytes)?;
+    bytes.truncate(count);
+    Ok(bytes)
+}
+
 fn bench(rt: &HostRuntime) -> anyhow::Result<()> {
-    let mut buffer = room(rt.alloc())?;
-    let count = fill(&mut rt.stdin(), &mut buffer)?;
-    let lines = run_sheet(rt.alloc(), &buffer[..count])?;
+    let sheet = read_input(rt.alloc(), &mut rt.stdin())?;
+    let lines = run_sheet(rt.alloc(), &sheet)?;
     let report = Report { lines: &lines };
     let text = report.to_string(rt.alloc())?;
     rt.print(text)?;
