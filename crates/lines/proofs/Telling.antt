@@ -11,9 +11,10 @@ use Rattle.text.specs.Writing.{capital_digit, bytes_text, Unspaced, AllUnspaced}
 use Rattle.text.specs.Words.{words}
 use Rattle.text.proofs.Decimals.{decimal_digits}
 use Rattle.text.proofs.Spaces.{words_spaced}
+use Rattle.sector.specs.Refusals.{answer_number}
 use Rattle.sector.specs.declared.refusal.Refusal.{Refusal}
 use Rattle.sector.specs.declared.refusal.Refusal.TheVariants.{TextLength, BufferLength, WorkingLength, SectorNumber, SectorFailed, Figures, SheetBroken, OutOfTurn}
-use Rattle.lines.specs.Printed.{kind_word, answer_number, or_dash, line_words, line_text, sector_fits, first_fits, Fitting}
+use Rattle.lines.specs.Printed.{kind_word, or_dash, line_words, line_text, sector_fits, first_fits, Fitting}
 use Rattle.lines.specs.declared.line.Line.{Line}
 use Rattle.lines.specs.declared.line.LineKind.{LineKind}
 use Rattle.lines.specs.declared.line.LineKind.TheVariants.{Setting, Write, Read, Broken}

@@ -1,10 +1,9 @@
 -- What is printed for the records of a sheet. Assumes nothing.
-use Rattle.std.specs.Prelude.{◌≡◌, ℕ, ◌^◌, ◌<◌, List, [], ◌∷◌, ◌++◌, Some, None, Ok, Err, codes, decimal, Option, Result}
+use Rattle.std.specs.Prelude.{◌≡◌, ℕ, ◌^◌, ◌<◌, List, [], ◌∷◌, ◌++◌, Some, None, codes, decimal, Option}
 use Rattle.std.specs.Int.Digits.{AllBelowBase}
 use Rattle.text.specs.Writing.{capital_digit, bytes_text}
 use Rattle.text.specs.Words.{spaced}
-use Rattle.sector.specs.Refusals.{refusal_number}
-use Rattle.sector.specs.declared.refusal.Refusal.{Refusal}
+use Rattle.sector.specs.Refusals.{answer_number}
 use Rattle.lines.specs.declared.line.Line.{Line}
 use Rattle.lines.specs.declared.line.LineKind.{LineKind}
 use Rattle.lines.specs.declared.line.LineKind.TheVariants.{Setting, Write, Read, Broken}
@@ -15,11 +14,6 @@ kind_word Setting = codes "setting"
 kind_word Write = codes "write"
 kind_word Read = codes "read"
 kind_word Broken = codes "broken"
-
--- the number of an answer: 0 where nothing is refused
-abbrev pub answer_number : Result (Unit {0}) Refusal → ℕ
-answer_number (Ok u) = 0
-answer_number (Err r) = refusal_number r
 
 -- the text of a value, or a dash for none
 abbrev pub or_dash : {A : Type 0} → (A → List ℕ) → Option A → List ℕ

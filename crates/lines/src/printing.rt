@@ -1,9 +1,9 @@
 ghost use Rattle.std.specs.Prelude.{◌≡◌, Some};
 ghost use Rattle.text.specs.Writing.{capital_digit, bytes_text};
-ghost use Rattle.lines.specs.Printed.{kind_word, answer_number, shown_or_dash, line_text, header_text, report_text};
+ghost use Rattle.lines.specs.Printed.{kind_word, shown_or_dash, line_text, header_text, report_text};
 
 use crate::line::{Line, LineKind};
-use sector::refusal::Refusal;
+use sector::numbers::answer_number;
 use std::fmt;
 
 impl LineKind {
@@ -25,16 +25,6 @@ impl fmt::Display for LineKind {
 
     fn fmt<W: fmt::Write>(&self, f: &mut fmt::Formatter<W>) -> fmt::Result {
         f.write_str(self.word())
-    }
-}
-
-// 0 where nothing is refused, or the refusal's number.
-fn answer_number(answer: Result<(), Refusal>) -> u8
-    ensures { result ≡ answer_number answer }
-{
-    match answer {
-        Ok(()) => 0,
-        Err(refusal) => refusal.number(),
     }
 }
 
