@@ -1,5 +1,6 @@
 -- A body and the record that it says. Assumes nothing.
-use Rattle.std.proofs.Common.{◌≡◌, ℕ, ◌+◌, ◌*◌, ◌/◌, ◌%◌, ◌<◌, ◌≤◌, true, false, eqb, leb, List, [], ◌∷◌, ◌++◌, length, get_or, drop, Some, None, Option, sym, refl, ap, ◌∙◌, arith}
+use Rattle.std.proofs.Common.{◌≡◌, ℕ, ◌+◌, ◌*◌, ◌/◌, ◌%◌, ◌<◌, ◌≤◌, true, false, eqb, leb, List, [], ◌∷◌, ◌++◌, length, get_or, drop, Some, None, Option, sym, refl, ap, ◌∙◌, arith, length-drop}
+use Rattle.std.proofs.lemmas.List.{drop_all}
 use Rattle.std.proofs.lemmas.Bool.{cond_both, eqb-true, leb-true, le-leb, eq-eqb, ne_eqb}
 use Rattle.sheets.specs.Records.{Said, setting, write, read, both, body, Formed, Placed}
 use Rattle.sheets.specs.Reading.{word, body_said}
@@ -49,15 +50,9 @@ module _ (at : ℕ) (b : List ℕ) (small : (i : ℕ) → get_or b i 0 < 256) (s
         ap (λ v. 1 ∷ get_or b 1 0 ∷ get_or b 2 0 ∷ v) (e3 ∙ ap (λ v. get_or b 3 0 ∷ get_or b 4 0 ∷ v) e5)
             ∙ ap (λ v. v ∷ get_or b 1 0 ∷ get_or b 2 0 ∷ get_or b 3 0 ∷ get_or b 4 0 ∷ get_or b 5 0 ∷ get_or b 6 0 ∷ drop 7 b) (sym k)
             ∙ front7 b (omega arith),
-        (small 1, small 2, omega (arith, small 3, small 4), omega (arith, small 5, small 6), after7 b l),
+        (small 1, small 2, omega (arith, small 3, small 4), omega (arith, small 5, small 6), omega (arith, length-drop 7 b)),
         tt,
       )
-    where
-      after7 : (xs : List ℕ) → length xs ≡ 23 → length (drop 7 xs) ≡ 16
-      after7 xs e = ap length refl ∙ rest xs e
-        where
-          rest : (ys : List ℕ) → length ys ≡ 23 → length (drop 7 ys) ≡ 16
-          rest ys f = omega (arith, f, ap length (front7 ys (omega (arith, f))))
 
   good_write : get_or b 0 0 ≡ 2 → 3 ≤ length b → Good at b (Some (write (word b 1) (at + 2 + 3) (drop 3 b)))
   good_write k l = (
@@ -69,14 +64,10 @@ module _ (at : ℕ) (b : List ℕ) (small : (i : ℕ) → get_or b i 0 < 256) (s
   good_read : get_or b 0 0 ≡ 3 → length b ≡ 3 → Good at b (Some (read (word b 1)))
   good_read k l = (
     ap (λ v. 3 ∷ v) (both_word (get_or b 1 0) (get_or b 2 0) (small 2) []) ∙ ap (λ v. v ∷ get_or b 1 0 ∷ get_or b 2 0 ∷ []) (sym k)
-        ∙ ap (λ v. get_or b 0 0 ∷ get_or b 1 0 ∷ get_or b 2 0 ∷ v) (sym (empty (drop 3 b) (omega (arith, ap length (front3 b (omega arith)))))) ∙ front3 b (omega arith),
+        ∙ ap (λ v. get_or b 0 0 ∷ get_or b 1 0 ∷ get_or b 2 0 ∷ v) (sym (drop_all 3 b (omega arith))) ∙ front3 b (omega arith),
     omega (arith, small 1, small 2),
     tt,
   )
-    where
-      empty : (xs : List ℕ) → length xs ≡ 0 → xs ≡ []
-      empty [] e = refl
-      empty (x ∷ xs) e = absurd (omega arith)
 
   pub good_body : Good at b (body_said (at + 2) b)
   good_body =

@@ -6,9 +6,6 @@ use Rattle.sheets.specs.Records.{Said, both, body, written, Stands}
 use Rattle.sheets.specs.Reading.{word, body_said}
 use Rattle.sheets.proofs.Bodies.{Good, good_body, said_body, both_word, word_both}
 
-none_some : {X : Type 0} (x : X) → None ≡ Some x → ⊥
-none_some x e = let z : ◌≡◌ {A = ℕ} 0 1 = cc in omega arith
-
 -- bytes of a part of a sheet are bytes
 small_part : (s : List ℕ) → ((i : ℕ) → get_or s i 0 < 256) → (n a i : ℕ) → get_or (take n (drop a s)) i 0 < 256
 small_part s small n a i = ⊎_elim
@@ -36,12 +33,6 @@ module _ (s : List ℕ) (at : ℕ) (r : Said) (rest : List ℕ) (e : drop at s �
   room : 2 + length (body r) ≤ length s - at
   room = omega (arith, length-drop at s, ap length e, length-append (body r) rest)
 
--- the length before a record fits the sheet
-pub long_enough : (s : List ℕ) (at : ℕ) (r : Said) → Stands s at r → 2 + word s at ≤ length s - at
-long_enough s at r h =
-    let e = goes_on s at r h in
-    omega (arith, word_at s at r _ e, room s at r _ e)
-
 pub ends_within : (s : List ℕ) (at : ℕ) (r : Said) → Stands s at r → (at < length s) × (at + length (written r) ≤ length s) × (at < at + length (written r))
 ends_within s at r h = let k = room s at r _ (goes_on s at r h) in (omega arith, omega arith, omega arith)
 
@@ -54,7 +45,7 @@ said_at s at r h =
     ∙ said_body at r h.formed h.placed
 
 none_stands : (s : List ℕ) (at n : ℕ) → n ≡ word s at → None ≡ body_said (at + 2) (take n (drop (at + 2) s)) → (r : Said) → Stands s at r → ⊥
-none_stands s at n w e r h = none_some r (e ∙ ap (λ z. body_said (at + 2) (take z (drop (at + 2) s))) w ∙ said_at s at r h)
+none_stands s at n w e r h = let p : None ≡ Some r = e ∙ ap (λ z. body_said (at + 2) (take z (drop (at + 2) s))) w ∙ said_at s at r h in cc
 
 found_good : (s : List ℕ) (at n : ℕ) (r : Said) → ((i : ℕ) → get_or s i 0 < 256) → n ≡ word s at → n ≤ length s - (at + 2)
     → Some r ≡ body_said (at + 2) (take n (drop (at + 2) s)) → Good at (take n (drop (at + 2) s)) (Some r)
