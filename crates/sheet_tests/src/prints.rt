@@ -13,12 +13,11 @@ pub(crate) fn printed(heap: Global, sheet: &[u8]) -> Result<String, Fail> {
 
 // Whether the run of a sheet prints this text.
 pub(crate) fn prints(
-    rt: &impl Abort,
-    heap: Global,
+    rt: &(impl Abort + AllocGlobal),
     sheet: &[u8],
     expected: &str,
 ) -> Result<(), Fail> {
-    let text = printed(heap, sheet)?;
+    let text = printed(rt.alloc(), sheet)?;
     assert_eq!(rt; text.as_str(), expected);
     Ok(())
 }

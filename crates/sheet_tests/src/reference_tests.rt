@@ -2,7 +2,7 @@
 use crate::prints::printed;
 use std::test::Fail;
 
-#[derive(Clone, Copy)]
+#[derive(Clone, Copy, Debug, PartialEq, Eq)]
 struct Case {
     about: &'static str,
     sheet: &'static [u8],

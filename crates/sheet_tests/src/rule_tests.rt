@@ -1,28 +1,32 @@
 // Sheets whose lines follow from the rules. What a read shows of a sector that was never written is taken from
 // tools/reference.py.
-use crate::draft::{Draft, put, sheet_of};
+use crate::draft::{Draft, KEY, Text, put, sheet_of};
 use crate::prints::prints;
+use sheets::records::Values;
 use std::alloc::{AllocError, Global};
 use std::process::Abort;
 use std::test::Fail;
 
 // 61,440 bytes: 26 of version and setting, fourteen writes of 4,101, and one of 4,000 with a text that is no sector.
 fn longest(heap: Global) -> Result<Vec<u8>, AllocError> {
-    let setting = Draft::Setting {
+    let setting = Draft::Setting(Values {
         cipher: 1,
         hash: 2,
         length: 4096,
         count: 8,
-    };
+        key: KEY,
+    });
     let mut sheet = sheet_of(heap, &[setting])?;
     for i in 0..14u8 {
         put(
             &mut sheet,
             Draft::Write {
                 sector: u16::from(i % 8),
-                first: i,
-                step: 7,
-                length: 4096,
+                text: Text {
+                    first: i,
+                    step: 7,
+                    length: 4096,
+                },
             },
         )?;
     }
@@ -30,9 +34,11 @@ fn longest(heap: Global) -> Result<Vec<u8>, AllocError> {
         &mut sheet,
         Draft::Write {
             sector: 0,
-            first: 0x78,
-            step: 0,
-            length: 3995,
+            text: Text {
+                first: 0x78,
+                step: 0,
+                length: 3995,
+            },
         },
     )?;
     Ok(sheet)
@@ -44,7 +50,6 @@ fn as_long_as_a_sheet_may_be(rt: HostRuntime) -> Result<(), Fail> {
     assert_eq!(rt; sheet.len(), 61440);
     prints(
         &rt,
-        rt.alloc(),
         &sheet,
         "record kind sector answer first\n0 setting - 0 -\n1 write 0 0 -\n2 write 1 0 -\n3 write 2 0 -\n4 write 3 0 -\n5 write 4 0 -\n6 write 5 0 -\n7 write 6 0 -\n8 write 7 0 -\n9 write 0 0 -\n10 write 1 0 -\n11 write 2 0 -\n12 write 3 0 -\n13 write 4 0 -\n14 write 5 0 -\n15 write 0 2 -\n",
     )
@@ -58,7 +63,6 @@ fn longer_than_a_sheet_may_be(rt: HostRuntime) -> Result<(), Fail> {
     assert_eq!(rt; sheet.len(), 61441);
     prints(
         &rt,
-        rt.alloc(),
         &sheet,
         "record kind sector answer first\n0 broken - 7 -\n",
     )
@@ -68,35 +72,41 @@ fn longer_than_a_sheet_may_be(rt: HostRuntime) -> Result<(), Fail> {
 // needs more than 16 bits. A setting that follows a refused one is taken, and one that follows an accepted one is out of
 // turn, whatever its figures. Sector 256 has the bytes 01 00, which are sector 1 to who reads them the wrong way.
 const LARGEST_STORES: [Draft; 10] = [
-    Draft::Setting {
+    Draft::Setting(Values {
         cipher: 1,
         hash: 1,
         length: 64,
         count: 513,
-    },
-    Draft::Setting {
+        key: KEY,
+    }),
+    Draft::Setting(Values {
         cipher: 2,
         hash: 2,
         length: 4096,
         count: 65535,
-    },
-    Draft::Setting {
+        key: KEY,
+    }),
+    Draft::Setting(Values {
         cipher: 1,
         hash: 1,
         length: 64,
         count: 512,
-    },
-    Draft::Setting {
+        key: KEY,
+    }),
+    Draft::Setting(Values {
         cipher: 0,
         hash: 0,
         length: 0,
         count: 0,
-    },
+        key: KEY,
+    }),
     Draft::Write {
         sector: 256,
-        first: 0xA9,
-        step: 0x1D,
-        length: 64,
+        text: Text {
+            first: 0xA9,
+            step: 0x1D,
+            length: 64,
+        },
     },
     Draft::Read { sector: 1 },
     Draft::Read { sector: 256 },
@@ -108,35 +118,44 @@ const LARGEST_STORES: [Draft; 10] = [
 // A write of no bytes and one of a byte too many are records like others, and refused by the store; the sector keeps what
 // it held.
 const OTHER_LENGTHS: [Draft; 6] = [
-    Draft::Setting {
+    Draft::Setting(Values {
         cipher: 2,
         hash: 1,
         length: 80,
         count: 2,
+        key: KEY,
+    }),
+    Draft::Write {
+        sector: 1,
+        text: Text {
+            first: 0x30,
+            step: 1,
+            length: 80,
+        },
     },
     Draft::Write {
         sector: 1,
-        first: 0x30,
-        step: 1,
-        length: 80,
+        text: Text {
+            first: 0x40,
+            step: 1,
+            length: 0,
+        },
     },
     Draft::Write {
         sector: 1,
-        first: 0x40,
-        step: 1,
-        length: 0,
-    },
-    Draft::Write {
-        sector: 1,
-        first: 0x50,
-        step: 1,
-        length: 81,
+        text: Text {
+            first: 0x50,
+            step: 1,
+            length: 81,
+        },
     },
     Draft::Write {
         sector: 2,
-        first: 0x60,
-        step: 1,
-        length: 80,
+        text: Text {
+            first: 0x60,
+            step: 1,
+            length: 80,
+        },
     },
     Draft::Read { sector: 1 },
 ];
@@ -145,30 +164,28 @@ const OTHER_LENGTHS: [Draft; 6] = [
 const BROKEN_BETWEEN: [Draft; 4] = [
     Draft::Read { sector: 5 },
     Draft::Kindless { sector: 5 },
-    Draft::Setting {
+    Draft::Setting(Values {
         cipher: 1,
         hash: 1,
         length: 64,
         count: 1,
-    },
+        key: KEY,
+    }),
     Draft::Read { sector: 0 },
 ];
 
 fn run_prints(
-    rt: &impl Abort,
-    heap: Global,
+    rt: &(impl Abort + AllocGlobal),
     records: &[Draft],
     expected: &str,
 ) -> Result<(), Fail> {
-    let sheet = sheet_of(heap, records)?;
-    prints(rt, heap, &sheet, expected)
+    prints(rt, &sheet_of(rt.alloc(), records)?, expected)
 }
 
 #[test]
 fn largest_stores(rt: HostRuntime) -> Result<(), Fail> {
     run_prints(
         &rt,
-        rt.alloc(),
         &LARGEST_STORES,
         "record kind sector answer first\n0 setting - 6 -\n1 setting - 6 -\n2 setting - 0 -\n3 setting - 8 -\n4 write 256 0 -\n5 read 1 0 0E361577E8127725\n6 read 256 0 A9C6E3001D3A5774\n7 read 511 0 02EFB8BEECD67197\n8 read 512 4 -\n9 read 65535 4 -\n",
     )
@@ -178,7 +195,6 @@ fn largest_stores(rt: HostRuntime) -> Result<(), Fail> {
 fn texts_of_other_lengths(rt: HostRuntime) -> Result<(), Fail> {
     run_prints(
         &rt,
-        rt.alloc(),
         &OTHER_LENGTHS,
         "record kind sector answer first\n0 setting - 0 -\n1 write 1 0 -\n2 write 1 2 -\n3 write 1 2 -\n4 write 2 4 -\n5 read 1 0 3031323334353637\n",
     )
@@ -188,7 +204,6 @@ fn texts_of_other_lengths(rt: HostRuntime) -> Result<(), Fail> {
 fn nothing_after_a_broken_record(rt: HostRuntime) -> Result<(), Fail> {
     run_prints(
         &rt,
-        rt.alloc(),
         &BROKEN_BETWEEN,
         "record kind sector answer first\n0 read 5 8 -\n1 broken - 7 -\n",
     )
@@ -199,7 +214,6 @@ fn nothing_after_a_broken_record(rt: HostRuntime) -> Result<(), Fail> {
 fn length_past_the_end(rt: HostRuntime) -> Result<(), Fail> {
     prints(
         &rt,
-        rt.alloc(),
         b"\x01\xFF\xFF\x02",
         "record kind sector answer first\n0 broken - 7 -\n",
     )
