@@ -5,11 +5,14 @@
 // first eight bytes of each. Nothing allocates but the start.
 use anyhow::anyhow;
 use ciphers::aes::Aes128;
+use ciphers::choice::Cipher;
 use ciphers::function::BlockFunction;
 use ciphers::speck::Speck128;
+use hashing::choice::AnyHash;
 use hashing::{BlockHash, BrwHash, HornerHash};
 use layers::cipher::CipherLayer;
 use media::flat::FlatMedium;
+use stacks::stack::{Next, Zero};
 use std::env;
 use stores::store::SectorStore;
 
@@ -21,7 +24,6 @@ const COUNT: u64 = 4;
 
 #[derive(Clone, Copy)]
 struct Work {
-    layers: u64,
     writes: u64,
     reads: u64,
 }
@@ -36,127 +38,141 @@ impl Work {
             let _ = store.read(SECTOR, buffer);
         }
     }
+}
 
-    // One layer on a store.
-    fn over_one<S: SectorStore, F: BlockFunction + Copy, H: BlockHash + Copy>(
-        self,
+// How a layer enciphers.
+#[derive(Clone, Copy)]
+struct Rule<F, H> {
+    function: F,
+    hash: H,
+}
+
+// A number of layers.
+trait Depth {
+    // Puts the calls to so many layers on a store, and gives the store back.
+    fn over<S: SectorStore, F: BlockFunction + Copy, H: BlockHash + Copy>(
+        work: Work,
         store: S,
-        f: F,
-        h: H,
+        rule: Rule<F, H>,
+        buffer: &mut [u8],
+    ) -> S;
+}
+
+impl Depth for Zero {
+    fn over<S: SectorStore, F: BlockFunction + Copy, H: BlockHash + Copy>(
+        work: Work,
+        mut store: S,
+        _rule: Rule<F, H>,
         buffer: &mut [u8],
     ) -> S {
-        let mut stack = CipherLayer::new(store, f, h);
-        self.put(&mut stack, buffer);
-        stack.into_below()
+        work.put(&mut store, buffer);
+        store
     }
+}
 
-    // Two layers on a store.
-    fn over_two<S: SectorStore, F: BlockFunction + Copy, H: BlockHash + Copy>(
-        self,
+impl<D: Depth> Depth for Next<D> {
+    fn over<S: SectorStore, F: BlockFunction + Copy, H: BlockHash + Copy>(
+        work: Work,
         store: S,
-        f: F,
-        h: H,
+        rule: Rule<F, H>,
         buffer: &mut [u8],
     ) -> S {
-        let lower = CipherLayer::new(store, f, h);
-        self.over_one(lower, f, h, buffer).into_below()
+        let layer = CipherLayer::new(store, rule.function, rule.hash);
+        D::over(work, layer, rule, buffer).into_below()
     }
+}
 
-    // As many layers on a store as the work says.
+// The layers of a stack.
+#[derive(Clone, Copy)]
+struct Stack {
+    cipher: Cipher,
+    hash: AnyHash,
+    layers: u64,
+}
+
+impl Stack {
+    // Does the work on so many layers on a store.
     fn over<S: SectorStore, F: BlockFunction + Copy, H: BlockHash + Copy>(
         self,
+        work: Work,
         store: S,
-        f: F,
-        h: H,
+        rule: Rule<F, H>,
         buffer: &mut [u8],
     ) -> S {
         match self.layers {
-            1 => self.over_one(store, f, h, buffer),
-            2 => self.over_two(store, f, h, buffer),
-            4 => {
-                let lower = CipherLayer::new(CipherLayer::new(store, f, h), f, h);
-                self.over_two(lower, f, h, buffer).into_below().into_below()
-            }
-            _ => {
-                let mut store = store;
-                self.put(&mut store, buffer);
-                store
-            }
+            1 => <Next<Zero> as Depth>::over(work, store, rule, buffer),
+            2 => <Next<Next<Zero>> as Depth>::over(work, store, rule, buffer),
+            4 => <Next<Next<Next<Next<Zero>>>> as Depth>::over(work, store, rule, buffer),
+            _ => <Zero as Depth>::over(work, store, rule, buffer),
         }
     }
 
-    // The same with the hash by its number.
-    fn hashed<S: SectorStore, F: BlockFunction + Copy>(
+    // The same with the block function chosen.
+    fn over_function<S: SectorStore, F: BlockFunction + Copy>(
         self,
+        work: Work,
         store: S,
-        f: F,
-        hash: u64,
+        function: F,
         buffer: &mut [u8],
     ) -> S {
-        match hash {
-            1 => self.over(store, f, HornerHash, buffer),
-            _ => self.over(store, f, BrwHash, buffer),
+        match self.hash {
+            AnyHash::Horner => {
+                let hash = HornerHash;
+                self.over(work, store, Rule { function, hash }, buffer)
+            }
+            AnyHash::Brw => {
+                let hash = BrwHash;
+                self.over(work, store, Rule { function, hash }, buffer)
+            }
         }
     }
 
-    // The same with the block function by its number.
-    fn enciphered<S: SectorStore>(self, store: S, cipher: u64, hash: u64, buffer: &mut [u8]) -> S {
-        match cipher {
-            1 => self.hashed(store, Aes128::new(KEY), hash, buffer),
-            _ => self.hashed(store, Speck128::new(KEY), hash, buffer),
+    // The same with the block function and the hash still to be chosen. Each choice is code of its own, as in a device.
+    fn over_store<S: SectorStore>(self, work: Work, store: S, buffer: &mut [u8]) -> S {
+        match self.cipher {
+            Cipher::Aes => self.over_function(work, store, Aes128::new(KEY), buffer),
+            Cipher::Speck => self.over_function(work, store, Speck128::new(KEY), buffer),
         }
     }
 }
 
 // The first eight bytes as a number.
 fn first(bytes: &[u8]) -> u64 {
-    let mut value = 0;
-    for i in 0..bytes.len().min(8) {
-        value = value << 8 | u64::from(bytes[i]);
-    }
-    value
+    bytes
+        .iter()
+        .take(8)
+        .fold(0, |value, byte| value << 8 | u64::from(*byte))
 }
 
 // The text of the sector: 0, 1, 2, ...
 fn fill_text(bytes: &mut [u8]) {
-    for i in 0..bytes.len() {
-        bytes[i] = (i % 251) as u8;
+    for (i, byte) in bytes.iter_mut().enumerate() {
+        *byte = (i % 251) as u8;
     }
 }
 
 fn main(rt: HostRuntime) -> anyhow::Result<()> {
     let mut words = [0u64; 6];
-    let mut n = 0;
-    for word in env::args(&rt)? {
-        if n > 6 {
-            break;
-        }
-        if n > 0 {
-            words[n - 1] = word.parse::<u64>()?;
-        }
-        n += 1;
+    for (number, word) in words.iter_mut().zip(env::args(&rt)?.skip(1)) {
+        *number = word.parse::<u64>()?;
     }
     let [cipher, hash, layers, length, writes, reads] = words;
     if length > 4096 {
         return Err(anyhow!("a sector has up to 4,096 bytes"));
     }
     let length = length as usize;
+    let stack = Stack {
+        cipher: if cipher == 1 { Cipher::Aes } else { Cipher::Speck },
+        hash: if hash == 1 { AnyHash::Horner } else { AnyHash::Brw },
+        layers,
+    };
     let mut memory = vec![in rt.alloc(); 0u8; 4 * length]?;
     let mut buffer = vec![in rt.alloc(); 0u8; length]?;
-    fill_text(buffer.as_mut_slice());
-    let work = Work {
-        layers,
-        writes,
-        reads,
-    };
-    let medium = FlatMedium::new(memory.as_mut_slice(), COUNT, length);
-    let medium = work.enciphered(medium, cipher, hash, buffer.as_mut_slice());
+    fill_text(&mut buffer);
+    let medium = FlatMedium::new(&mut memory, COUNT, length);
+    let medium = stack.over_store(Work { writes, reads }, medium, &mut buffer);
     let lying = medium.into_bytes();
     let at = lying.len() / 4 * 3;
-    println!(rt;
-        "{:016X} {:016X}",
-        first(&lying[at..]),
-        first(buffer.as_slice())
-    )?;
+    println!(rt; "{:016X} {:016X}", first(&lying[at..]), first(&buffer))?;
     Ok(())
 }
