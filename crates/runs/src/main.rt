@@ -9,24 +9,18 @@ mod stack;
 
 use anyhow::anyhow;
 use reading::{Line, read_line};
-use run::{Run, Stage, Tally, Verdict};
+use run::{Failure, Run, Stage, Tally, Verdict};
 use std::alloc::Global;
 use std::io::{BufRead, BufReader};
 use std::process::ExitCode;
 
-// A line without the LF that ends it.
-fn without_end(line: &str) -> &str {
-    match line.strip_suffix('\n') {
-        Some(front) => front,
-        None => line,
-    }
-}
-
-// What a line says, and the stage after it.
-fn read_at(heap: Global, stage: Stage, text: &str) -> anyhow::Result<(Line, Stage)> {
-    let line = read_line(heap, without_end(text))?;
+// What a line says, if it says anything, and the stage after it. The last line may have no LF at its end.
+fn read_at(heap: Global, stage: Stage, text: &str) -> anyhow::Result<Option<(Line, Stage)>> {
+    let Some(line) = read_line(heap, text.strip_suffix('\n').unwrap_or(text))? else {
+        return Ok(None);
+    };
     match stage.after(&line) {
-        Some(next) => Ok((line, next)),
+        Some(next) => Ok(Some((line, next))),
         None => Err(anyhow!("a line out of turn")),
     }
 }
@@ -48,7 +42,8 @@ fn judge(rt: &HostRuntime) -> anyhow::Result<Tally> {
             break;
         }
         let (line, next) = match read_at(rt.alloc(), stage, text.as_str()) {
-            Ok(read) => read,
+            Ok(Some(read)) => read,
+            Ok(None) => continue,
             Err(e) => {
                 println!(rt; "line {number}: {e}")?;
                 return Err(e);
@@ -60,15 +55,19 @@ fn judge(rt: &HostRuntime) -> anyhow::Result<Tally> {
             tally.count(verdict);
         }
     }
-    if !matches!(stage, Stage::Outside) {
-        tell(rt, run.name, Verdict::Unfinished)?;
-        tally.count(Verdict::Unfinished);
+    if stage != Stage::Outside {
+        let verdict = Err(Failure::Unfinished);
+        tell(rt, run.name, verdict)?;
+        tally.count(verdict);
     }
     Ok(tally)
 }
 
 fn tell(rt: &HostRuntime, name: u64, verdict: Verdict) -> anyhow::Result<()> {
-    println!(rt; "run {name} {verdict}")?;
+    match verdict {
+        Ok(calls) => println!(rt; "run {name} {calls} calls agree")?,
+        Err(failure) => println!(rt; "run {name} {failure}")?,
+    }
     Ok(())
 }
 

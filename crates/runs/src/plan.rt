@@ -1,18 +1,12 @@
 use ciphers::choice::Cipher;
 use hashing::choice::AnyHash;
 
-// The figures of a spared medium.
-#[derive(Clone, Copy)]
-pub(crate) struct Figures {
+// The lowest store of a run: the figures of a spared medium, its bad sectors, and the bytes lent to it.
+#[derive(Drop)]
+pub(crate) struct Medium {
     pub(crate) count: u64,
     pub(crate) length: usize,
     pub(crate) spares: usize,
-}
-
-// The lowest store of a run: its figures, its bad sectors, and the bytes lent to it.
-#[derive(Drop)]
-pub(crate) struct Medium {
-    pub(crate) figures: Figures,
     pub(crate) bad: Vec<u64>,
     pub(crate) bytes: Vec<u8>,
 }
@@ -28,22 +22,5 @@ pub(crate) enum Layer {
     Window {
         base: u64,
         count: u64,
-    },
-}
-
-// The answer that a call must have.
-#[derive(Drop)]
-pub(crate) enum Wanted {
-    // a number in answer to a question
-    Number(u64),
-    State(u64),
-    // an accepted write
-    Done,
-    // an accepted read
-    Bytes(Vec<u8>),
-    Refused {
-        number: u64,
-        sector: u64,
-        layer: u64,
     },
 }

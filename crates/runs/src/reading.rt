@@ -1,22 +1,24 @@
 // Reads a line of a run.
-use crate::plan::{Figures, Layer, Medium, Wanted};
+use crate::plan::{Layer, Medium};
 use anyhow::anyhow;
 use ciphers::choice::Cipher;
 use hashing::choice::AnyHash;
-use stacks::call::Call;
-use std::alloc::Global;
+use sector::refusal::Refusal;
+use stacks::call::{Answer, Call, Entry};
+use std::alloc::{AllocError, Global};
+use stores::fault::Fault;
+use stores::state::SectorState;
 
 // What a line says.
 #[derive(Drop)]
 pub(crate) enum Line {
-    // nothing: an empty line or a remark
-    Passed,
     Run(u64),
     Medium(Medium),
     Layer(Layer),
     // the figures of the stack
     Stack { count: u64, length: u64, layer: u64 },
-    Call(Call, Wanted),
+    // a call to put, and the call as it must be afterwards, with its answer
+    Call(Call, Entry),
     End(Vec<u8>),
 }
 
@@ -29,10 +31,8 @@ fn number(word: &str) -> anyhow::Result<u64> {
 
 // What follows a name in a word.
 fn named<'a>(word: &'a str, name: &str) -> anyhow::Result<&'a str> {
-    match word.strip_prefix(name) {
-        Some(value) => Ok(value),
-        None => Err(anyhow!("another name is wanted")),
-    }
+    word.strip_prefix(name)
+        .ok_or_else(|| anyhow!("another name is wanted"))
 }
 
 // The number that follows a name.
@@ -83,13 +83,10 @@ fn medium(
     bad: &str,
     bytes: &str,
 ) -> anyhow::Result<Line> {
-    let figures = Figures {
+    Ok(Line::Medium(Medium {
         count: figure(count, "count=")?,
         length: named(length, "length=")?.parse::<usize>()?,
         spares: named(spares, "spares=")?.parse::<usize>()?,
-    };
-    Ok(Line::Medium(Medium {
-        figures,
         bad: list(heap, named(bad, "bad=")?)?,
         bytes: hex(heap, named(bytes, "bytes=")?)?,
     }))
@@ -106,69 +103,94 @@ fn encipher(heap: Global, cipher: &str, hash: &str, key: &str) -> anyhow::Result
         "brw" => AnyHash::Brw,
         _ => return Err(anyhow!("no hash")),
     };
-    let bytes = hex(heap, key)?;
-    if bytes.len() != 16 {
-        return Err(anyhow!("no key"));
+    let key = hex(heap, key)?;
+    match <[u8; 16]>::try_from(key.as_slice()) {
+        Ok(key) => Ok(Line::Layer(Layer::Encipher { cipher, hash, key })),
+        Err(_) => Err(anyhow!("no key")),
     }
-    let mut key = [0; 16];
-    key.copy_from_slice(bytes.as_slice());
-    Ok(Line::Layer(Layer::Encipher { cipher, hash, key }))
 }
 
-// The read of a sector into a buffer of this length.
-fn read(heap: Global, sector: &str, length: &str) -> anyhow::Result<Call> {
+// The sector that a read names, and a buffer of this length for it.
+fn read(heap: Global, sector: &str, length: &str) -> anyhow::Result<(u64, Vec<u8>)> {
     let length = length.parse::<usize>()?;
-    Ok(Call::Read(number(sector)?, vec![in heap; FILL; length]?))
+    Ok((number(sector)?, blank(heap, length)?))
 }
 
-fn write(heap: Global, sector: &str, bytes: &str) -> anyhow::Result<Call> {
-    Ok(Call::Write(number(sector)?, hex(heap, bytes)?))
+// A buffer of this length as it is before a read, and after a refused one.
+fn blank(heap: Global, length: usize) -> Result<Vec<u8>, AllocError> {
+    vec![in heap; FILL; length]
 }
 
-fn refused(refusal: &str, sector: &str, layer: &str) -> anyhow::Result<Wanted> {
-    Ok(Wanted::Refused {
-        number: number(refusal)?,
-        sector: number(sector)?,
-        layer: number(layer)?,
-    })
+fn write(heap: Global, sector: &str, bytes: &str) -> anyhow::Result<(u64, Vec<u8>)> {
+    Ok((number(sector)?, hex(heap, bytes)?))
 }
 
-// A call and the answer that it must have.
-fn read_call(heap: Global, words: &[&str]) -> anyhow::Result<Line> {
-    match words {
-        ["state", n, "=", state] => Ok(Line::Call(
-            Call::State(number(n)?),
-            Wanted::State(number(state)?),
-        )),
-        ["read", n, length, "=", "0", bytes] => Ok(Line::Call(
-            read(heap, n, length)?,
-            Wanted::Bytes(hex(heap, bytes)?),
-        )),
-        [
-            "read",
-            n,
-            length,
-            "=",
-            why,
-            "sector",
+const STATES: [SectorState; 3] = [
+    SectorState::Ready,
+    SectorState::Missing,
+    SectorState::Failed,
+];
+
+const REFUSALS: [Refusal; 3] = [
+    Refusal::BufferLength,
+    Refusal::SectorNumber,
+    Refusal::SectorFailed,
+];
+
+// The state with this number. Where there is none, no call can be answered so.
+fn state(number: u64) -> Option<Answer> {
+    STATES
+        .iter()
+        .find(|state| u64::from(state.number()) == number)
+        .map(|state| Answer::State(*state))
+}
+
+// The refusal with this number, at a sector and a layer. Where there is none, no call can be answered so.
+fn refused(refusal: &str, sector: &str, layer: &str) -> anyhow::Result<Option<Answer>> {
+    let (refusal, sector, layer) = (number(refusal)?, number(sector)?, number(layer)?);
+    let refusal = REFUSALS
+        .iter()
+        .find(|r| u64::from(r.number()) == refusal);
+    match (refusal, u16::try_from(layer)) {
+        (Some(refusal), Ok(layer)) => Ok(Some(Answer::Transfer(Err(Fault {
+            refusal: *refusal,
             sector,
-            "layer",
             layer,
-        ] => Ok(Line::Call(read(heap, n, length)?, refused(why, sector, layer)?)),
-        ["write", n, bytes, "=", "0"] => Ok(Line::Call(write(heap, n, bytes)?, Wanted::Done)),
-        [
-            "write",
-            n,
-            bytes,
-            "=",
-            why,
-            "sector",
-            sector,
-            "layer",
-            layer,
-        ] => Ok(Line::Call(write(heap, n, bytes)?, refused(why, sector, layer)?)),
-        _ => Err(anyhow!("no such line")),
+        })))),
+        _ => Ok(None),
     }
+}
+
+// A call, and the same with the answer that it must have.
+fn read_call(heap: Global, words: &[&str]) -> anyhow::Result<Line> {
+    let done = Some(Answer::Transfer(Ok(())));
+    let (call, after, answer) = match words {
+        ["state", n, "=", answer] => {
+            let n = number(n)?;
+            (Call::State(n), Call::State(n), state(number(answer)?))
+        }
+        ["read", n, length, "=", "0", bytes] => {
+            let (n, buffer) = read(heap, n, length)?;
+            (Call::Read(n, buffer), Call::Read(n, hex(heap, bytes)?), done)
+        }
+        ["read", n, length, "=", why, "sector", sector, "layer", layer] => {
+            let (n, buffer) = read(heap, n, length)?;
+            let kept = blank(heap, buffer.len())?;
+            (Call::Read(n, buffer), Call::Read(n, kept), refused(why, sector, layer)?)
+        }
+        ["write", n, bytes, "=", "0"] => {
+            let (n, buffer) = write(heap, n, bytes)?;
+            let kept = Vec::from_slice(heap, &buffer)?;
+            (Call::Write(n, buffer), Call::Write(n, kept), done)
+        }
+        ["write", n, bytes, "=", why, "sector", sector, "layer", layer] => {
+            let (n, buffer) = write(heap, n, bytes)?;
+            let kept = Vec::from_slice(heap, &buffer)?;
+            (Call::Write(n, buffer), Call::Write(n, kept), refused(why, sector, layer)?)
+        }
+        _ => return Err(anyhow!("no such line")),
+    };
+    Ok(Line::Call(call, Entry { call: after, answer }))
 }
 
 // What the words of a line say.
@@ -193,11 +215,11 @@ fn read_words(heap: Global, words: &[&str]) -> anyhow::Result<Line> {
     }
 }
 
-// What a line says. It comes without the LF that ends it.
-pub(crate) fn read_line(heap: Global, line: &str) -> anyhow::Result<Line> {
+// What a line says; nothing, if it is empty or a remark. It comes without the LF that ends it.
+pub(crate) fn read_line(heap: Global, line: &str) -> anyhow::Result<Option<Line>> {
     if line.is_empty() || line.starts_with('#') {
-        return Ok(Line::Passed);
+        return Ok(None);
     }
     let words: Vec<&str> = line.split(' ').collect(heap)?;
-    read_words(heap, words.as_slice())
+    Ok(Some(read_words(heap, &words)?))
 }

@@ -1,13 +1,13 @@
 // A run: what its lines say, and what comes of it.
-use crate::plan::{Figures, Layer, Medium, Wanted};
-use crate::reading::{FILL, Line};
-use crate::stack::put;
+use crate::plan::{Layer, Medium};
+use crate::reading::Line;
+use crate::stack::{TooDeep, put};
 use stacks::call::{Answer, Call, Entry};
 use std::alloc::Global;
 use std::fmt;
 
 // Which lines of a run may come next.
-#[derive(Clone, Copy)]
+#[derive(Clone, Copy, PartialEq, Eq)]
 pub(crate) enum Stage {
     // the first one
     Outside,
@@ -20,7 +20,6 @@ impl Stage {
     // The stage after a line, if the line may come.
     pub(crate) fn after(self, line: &Line) -> Option<Stage> {
         match (self, line) {
-            (_, Line::Passed) => Some(self),
             (Stage::Outside, Line::Run(_)) => Some(Stage::Medium),
             (Stage::Medium, Line::Medium(_)) => Some(Stage::Layers),
             (Stage::Layers, Line::Layer(_)) => Some(Stage::Layers),
@@ -35,17 +34,32 @@ impl Stage {
 // How many questions a stack's figures ask, before the calls.
 const FIGURES: usize = 3;
 
-// What there is to say of a run.
+// A question for a figure of the stack, as it must be answered.
+fn figure(call: Call, value: u64) -> Entry {
+    Entry {
+        call,
+        answer: Some(Answer::Number(value)),
+    }
+}
+
+// Why a run does not agree.
 #[derive(Clone, Copy)]
-pub(crate) enum Verdict {
-    // in its figures, in so many calls, and in the bytes at the end
-    Agrees(usize),
-    // the first line that does
+pub(crate) enum Failure {
+    // the first line that differs
     Differs(u64),
     TooDeep,
-    // the input ends before it
+    // the input ends before the run does
     Unfinished,
 }
+
+impl From<TooDeep> for Failure {
+    fn from(_: TooDeep) -> Failure {
+        Failure::TooDeep
+    }
+}
+
+// What there is to say of a run: in how many calls it agrees, beside its figures and the bytes at the end.
+pub(crate) type Verdict = Result<usize, Failure>;
 
 // How many runs agree and how many do not.
 #[derive(Clone, Copy)]
@@ -56,21 +70,23 @@ pub(crate) struct Tally {
 
 impl Tally {
     pub(crate) fn count(&mut self, verdict: Verdict) {
-        match verdict {
-            Verdict::Agrees(_) => self.agree = self.agree.saturating_add(1),
-            _ => self.differ = self.differ.saturating_add(1),
-        }
+        let counted = match verdict {
+            Ok(_) => &mut self.agree,
+            Err(_) => &mut self.differ,
+        };
+        *counted = counted.saturating_add(1);
     }
 }
 
-// A stack from the lowest store up, the calls, and the answers that they must have, each with its line's number.
+// A stack from the lowest store up, the calls, and the same as they must be afterwards, each with its line's number. The calls
+// are a list of their own because they are put as one slice.
 #[derive(Drop)]
 pub(crate) struct Run {
     pub(crate) name: u64,
     medium: Medium,
     layers: Vec<Layer>,
     entries: Vec<Entry>,
-    wanted: Vec<(u64, Wanted)>,
+    wanted: Vec<(u64, Entry)>,
 }
 
 impl Run {
@@ -78,11 +94,9 @@ impl Run {
         Run {
             name,
             medium: Medium {
-                figures: Figures {
-                    count: 0,
-                    length: 64,
-                    spares: 0,
-                },
+                count: 0,
+                length: 64,
+                spares: 0,
                 bad: Vec::new(heap),
                 bytes: Vec::new(heap),
             },
@@ -92,12 +106,9 @@ impl Run {
         }
     }
 
-    // Adds a call with the answer that it must have.
-    fn ask(&mut self, number: u64, call: Call, wanted: Wanted) -> anyhow::Result<()> {
-        self.entries.push(Entry {
-            call,
-            answer: Answer::Waiting,
-        })?;
+    // Adds a call, and what it must be afterwards.
+    fn ask(&mut self, number: u64, call: Call, wanted: Entry) -> anyhow::Result<()> {
+        self.entries.push(Entry { call, answer: None })?;
         self.wanted.push((number, wanted))?;
         Ok(())
     }
@@ -110,7 +121,6 @@ impl Run {
         line: Line,
     ) -> anyhow::Result<Option<Verdict>> {
         match line {
-            Line::Passed => {}
             Line::Run(name) => *self = Run::new(heap, name),
             Line::Medium(medium) => self.medium = medium,
             Line::Layer(layer) => self.layers.push(layer)?,
@@ -119,87 +129,37 @@ impl Run {
                 length,
                 layer,
             } => {
-                self.ask(number, Call::Count, Wanted::Number(count))?;
-                self.ask(number, Call::Length, Wanted::Number(length))?;
-                self.ask(number, Call::Layer, Wanted::Number(layer))?;
+                self.ask(number, Call::Count, figure(Call::Count, count))?;
+                self.ask(number, Call::Length, figure(Call::Length, length))?;
+                self.ask(number, Call::Layer, figure(Call::Layer, layer))?;
             }
             Line::Call(call, wanted) => self.ask(number, call, wanted)?,
-            Line::End(bytes) => return Ok(Some(self.finish(number, bytes.as_slice()))),
+            Line::End(bytes) => return Ok(Some(self.finish(number, &bytes))),
         }
         Ok(None)
     }
 
-    // Puts the calls and compares every answer, then the medium's bytes.
+    // Puts the calls and compares every one, then the medium's bytes.
     fn finish(&mut self, number: u64, end: &[u8]) -> Verdict {
-        let figures = self.medium.figures;
-        let bad = self.medium.bad.as_slice();
-        let layers = self.layers.as_slice();
-        let list = self.entries.as_mut_slice();
-        if !put(self.medium.bytes.as_mut_slice(), figures, bad, layers, list) {
-            return Verdict::TooDeep;
-        }
+        put(&mut self.medium, &self.layers, &mut self.entries)?;
         for (entry, (line, wanted)) in self.entries.iter().zip(self.wanted.iter()) {
-            if !agrees(entry, wanted) {
-                return Verdict::Differs(*line);
+            if entry != wanted {
+                return Err(Failure::Differs(*line));
             }
         }
-        if self.medium.bytes.as_slice() == end {
-            Verdict::Agrees(self.entries.len().saturating_sub(FIGURES))
-        } else {
-            Verdict::Differs(number)
+        if self.medium.bytes.as_slice() != end {
+            return Err(Failure::Differs(number));
         }
+        Ok(self.entries.len().saturating_sub(FIGURES))
     }
 }
 
-// Whether a read's buffer holds what it held before; no other call could change its own.
-fn kept(call: &Call) -> bool {
-    match call {
-        Call::Read(_, buffer) => {
-            for b in buffer.as_slice() {
-                if *b != FILL {
-                    return false;
-                }
-            }
-            true
-        }
-        _ => true,
-    }
-}
-
-// Whether a call was answered as it must be.
-fn agrees(entry: &Entry, wanted: &Wanted) -> bool {
-    match (entry.answer, wanted) {
-        (Answer::Number(n), Wanted::Number(m)) => n == *m,
-        (Answer::State(state), Wanted::State(n)) => u64::from(state.number()) == *n,
-        (Answer::Done, Wanted::Done) => true,
-        (Answer::Done, Wanted::Bytes(bytes)) => match &entry.call {
-            Call::Read(_, buffer) => buffer.as_slice() == bytes.as_slice(),
-            _ => false,
-        },
-        (
-            Answer::Refused(fault),
-            Wanted::Refused {
-                number,
-                sector,
-                layer,
-            },
-        ) => {
-            u64::from(fault.number()) == *number
-                && fault.sector == *sector
-                && u64::from(fault.layer) == *layer
-                && kept(&entry.call)
-        }
-        _ => false,
-    }
-}
-
-impl fmt::Display for Verdict {
+impl fmt::Display for Failure {
     fn fmt<W: fmt::Write>(&self, f: &mut fmt::Formatter<W>) -> fmt::Result {
         match *self {
-            Verdict::Agrees(calls) => write!(f, "{calls} calls agree"),
-            Verdict::Differs(line) => write!(f, "differs at line {line}"),
-            Verdict::TooDeep => write!(f, "has more than 5 layers"),
-            Verdict::Unfinished => write!(f, "has no end"),
+            Failure::Differs(line) => write!(f, "differs at line {line}"),
+            Failure::TooDeep => write!(f, "has more than 5 layers"),
+            Failure::Unfinished => write!(f, "has no end"),
         }
     }
 }

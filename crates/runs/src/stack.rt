@@ -1,6 +1,6 @@
-// Builds a stack of up to five layers and puts a list of calls to it. Each level is a function of its own, as the type
-// of a stack tells its layers.
-use crate::plan::{Figures, Layer};
+// Builds a stack of up to five layers and puts a list of calls to it. The type of a stack tells its layers, so each level is
+// code of its own, and the room that is left above it is a type too.
+use crate::plan::{Layer, Medium};
 use ciphers::choice::AnyCipher;
 use hashing::choice::AnyHash;
 use layers::cipher::CipherLayer;
@@ -11,95 +11,71 @@ use stacks::run::run;
 use stacks::stack::{Next, StackOn, Zero};
 use stores::store::SectorStore;
 
-// Puts the next layer on the stack and goes on with the level above; with none left, puts the calls.
-macro_rules! level {
-    ($next:ident, $stack:ident, $layers:ident, $at:ident, $list:ident) => {
-        match $layers.get($at) {
-            None => finish::<B, N, P>($stack, $list),
-            Some(Layer::Encipher { cipher, hash, key }) => {
-                let layer = CipherLayer::new($stack, cipher.keyed(*key), *hash);
-                $next::<B, Next<N>, CipherLayer<P, AnyCipher, AnyHash>>(layer, $layers, $at + 1, $list)
+// More layers are wanted than there is room for.
+#[derive(Clone, Copy, Debug, PartialEq, Eq)]
+pub(crate) struct TooDeep;
+
+// How many layers more may come.
+trait Room {
+    // Puts the calls to these layers on the stack.
+    fn put<B: SectorStore, N, P: StackOn<B, N> + Drop>(
+        stack: P,
+        layers: &[Layer],
+        list: &mut [Entry],
+    ) -> Result<(), TooDeep>;
+}
+
+impl Room for Zero {
+    fn put<B: SectorStore, N, P: StackOn<B, N> + Drop>(
+        mut stack: P,
+        layers: &[Layer],
+        list: &mut [Entry],
+    ) -> Result<(), TooDeep> {
+        if !layers.is_empty() {
+            return Err(TooDeep);
+        }
+        run::<B, N, P>(&mut stack, list);
+        Ok(())
+    }
+}
+
+impl<R: Room> Room for Next<R> {
+    fn put<B: SectorStore, N, P: StackOn<B, N> + Drop>(
+        mut stack: P,
+        layers: &[Layer],
+        list: &mut [Entry],
+    ) -> Result<(), TooDeep> {
+        match layers {
+            [] => {
+                run::<B, N, P>(&mut stack, list);
+                Ok(())
             }
-            Some(Layer::Window { base, count }) => {
-                let window = Window::new($stack, *base, *count);
-                $next::<B, Next<N>, Window<P>>(window, $layers, $at + 1, $list)
+            [Layer::Encipher { cipher, hash, key }, above @ ..] => {
+                let layer = CipherLayer::new(stack, cipher.keyed(*key), *hash);
+                <R as Room>::put::<B, Next<N>, CipherLayer<P, AnyCipher, AnyHash>>(layer, above, list)
+            }
+            [Layer::Window { base, count }, above @ ..] => {
+                let window = Window::new(stack, *base, *count);
+                <R as Room>::put::<B, Next<N>, Window<P>>(window, above, list)
             }
         }
-    };
-}
-
-// Puts the calls to a stack.
-fn finish<B: SectorStore, N, P: StackOn<B, N> + Drop>(mut stack: P, list: &mut [Entry]) -> bool {
-    run::<B, N, P>(&mut stack, list);
-    true
-}
-
-fn level_0<B: SectorStore, N, P: StackOn<B, N> + Drop>(
-    stack: P,
-    layers: &[Layer],
-    at: usize,
-    list: &mut [Entry],
-) -> bool {
-    if at < layers.len() {
-        return false;
     }
-    finish::<B, N, P>(stack, list)
 }
 
-fn level_1<B: SectorStore, N, P: StackOn<B, N> + Drop>(
-    stack: P,
-    layers: &[Layer],
-    at: usize,
-    list: &mut [Entry],
-) -> bool {
-    level!(level_0, stack, layers, at, list)
-}
+type Five = Next<Next<Next<Next<Next<Zero>>>>>;
 
-fn level_2<B: SectorStore, N, P: StackOn<B, N> + Drop>(
-    stack: P,
-    layers: &[Layer],
-    at: usize,
-    list: &mut [Entry],
-) -> bool {
-    level!(level_1, stack, layers, at, list)
-}
-
-fn level_3<B: SectorStore, N, P: StackOn<B, N> + Drop>(
-    stack: P,
-    layers: &[Layer],
-    at: usize,
-    list: &mut [Entry],
-) -> bool {
-    level!(level_2, stack, layers, at, list)
-}
-
-fn level_4<B: SectorStore, N, P: StackOn<B, N> + Drop>(
-    stack: P,
-    layers: &[Layer],
-    at: usize,
-    list: &mut [Entry],
-) -> bool {
-    level!(level_3, stack, layers, at, list)
-}
-
-fn level_5<B: SectorStore, N, P: StackOn<B, N> + Drop>(
-    stack: P,
-    layers: &[Layer],
-    at: usize,
-    list: &mut [Entry],
-) -> bool {
-    level!(level_4, stack, layers, at, list)
-}
-
-// Puts the calls to a stack of these layers on a spared medium. Answers false, and puts none, if the layers are more
-// than five.
+// Puts the calls to a stack of these layers on a spared medium, or none of them, if the layers are more than five.
 pub(crate) fn put<'a>(
-    bytes: &'a mut [u8],
-    figures: Figures,
-    bad: &'a [u64],
+    medium: &'a mut Medium,
     layers: &[Layer],
     list: &mut [Entry],
-) -> bool {
-    let medium = SparedMedium::new(bytes, figures.count, figures.length, figures.spares, bad);
-    level_5::<SparedMedium<'a>, Zero, SparedMedium<'a>>(medium, layers, 0, list)
+) -> Result<(), TooDeep> {
+    let lowest = SparedMedium::new(
+        &mut medium.bytes,
+        medium.count,
+        medium.length,
+        medium.spares,
+        &medium.bad,
+    );
+    <Five as Room>::put::<SparedMedium<'_>, Zero, SparedMedium<'_>>(lowest, layers, list)
 }

@@ -2,7 +2,7 @@ use stores::fault::Fault;
 use stores::state::SectorState;
 
 // One call of a list, with its sector and its own buffer.
-#[derive(Drop)]
+#[derive(Debug, PartialEq, Eq, Drop)]
 pub enum Call {
     Count,
     Length,
@@ -22,7 +22,7 @@ pub enum Answer {
 }
 
 // A call and its answer, once it is put.
-#[derive(Drop)]
+#[derive(Debug, PartialEq, Eq, Drop)]
 pub struct Entry {
     pub call: Call,
     pub answer: Option<Answer>,
