@@ -162,8 +162,16 @@ fn main(rt: HostRuntime) -> anyhow::Result<()> {
     }
     let length = length as usize;
     let stack = Stack {
-        cipher: if cipher == 1 { Cipher::Aes } else { Cipher::Speck },
-        hash: if hash == 1 { AnyHash::Horner } else { AnyHash::Brw },
+        cipher: if cipher == 1 {
+            Cipher::Aes
+        } else {
+            Cipher::Speck
+        },
+        hash: if hash == 1 {
+            AnyHash::Horner
+        } else {
+            AnyHash::Brw
+        },
         layers,
     };
     let mut memory = vec![in rt.alloc(); 0u8; 4 * length]?;

@@ -148,9 +148,7 @@ fn state(number: u64) -> Option<Answer> {
 // The refusal with this number, at a sector and a layer. Where there is none, no call can be answered so.
 fn refused(refusal: &str, sector: &str, layer: &str) -> anyhow::Result<Option<Answer>> {
     let (refusal, sector, layer) = (number(refusal)?, number(sector)?, number(layer)?);
-    let refusal = REFUSALS
-        .iter()
-        .find(|r| u64::from(r.number()) == refusal);
+    let refusal = REFUSALS.iter().find(|r| u64::from(r.number()) == refusal);
     match (refusal, u16::try_from(layer)) {
         (Some(refusal), Ok(layer)) => Ok(Some(Answer::Transfer(Err(Fault {
             refusal: *refusal,
@@ -161,36 +159,58 @@ fn refused(refusal: &str, sector: &str, layer: &str) -> anyhow::Result<Option<An
     }
 }
 
-// A call, and the same with the answer that it must have.
+// A call to put, and what it must be afterwards.
+fn asked(call: Call, after: Call, answer: Option<Answer>) -> Line {
+    let wanted = Entry {
+        call: after,
+        answer,
+    };
+    Line::Call(call, wanted)
+}
+
+// A call that must be answered.
 fn read_call(heap: Global, words: &[&str]) -> anyhow::Result<Line> {
     let done = Some(Answer::Transfer(Ok(())));
-    let (call, after, answer) = match words {
+    match words {
         ["state", n, "=", answer] => {
             let n = number(n)?;
-            (Call::State(n), Call::State(n), state(number(answer)?))
+            let answer = state(number(answer)?);
+            Ok(asked(Call::State(n), Call::State(n), answer))
         }
         ["read", n, length, "=", "0", bytes] => {
             let (n, buffer) = read(heap, n, length)?;
-            (Call::Read(n, buffer), Call::Read(n, hex(heap, bytes)?), done)
-        }
-        ["read", n, length, "=", why, "sector", sector, "layer", layer] => {
-            let (n, buffer) = read(heap, n, length)?;
-            let kept = blank(heap, buffer.len())?;
-            (Call::Read(n, buffer), Call::Read(n, kept), refused(why, sector, layer)?)
+            let filled = Call::Read(n, hex(heap, bytes)?);
+            Ok(asked(Call::Read(n, buffer), filled, done))
         }
         ["write", n, bytes, "=", "0"] => {
             let (n, buffer) = write(heap, n, bytes)?;
-            let kept = Vec::from_slice(heap, &buffer)?;
-            (Call::Write(n, buffer), Call::Write(n, kept), done)
+            let kept = Call::Write(n, Vec::from_slice(heap, &buffer)?);
+            Ok(asked(Call::Write(n, buffer), kept, done))
         }
-        ["write", n, bytes, "=", why, "sector", sector, "layer", layer] => {
-            let (n, buffer) = write(heap, n, bytes)?;
-            let kept = Vec::from_slice(heap, &buffer)?;
-            (Call::Write(n, buffer), Call::Write(n, kept), refused(why, sector, layer)?)
-        }
-        _ => return Err(anyhow!("no such line")),
+        _ => read_refused(heap, words),
+    }
+}
+
+// A read or a write that must be refused. Its buffer must be as it was.
+fn read_refused(heap: Global, words: &[&str]) -> anyhow::Result<Line> {
+    let [call @ .., why, "sector", sector, "layer", layer] = words else {
+        return Err(anyhow!("no such line"));
     };
-    Ok(Line::Call(call, Entry { call: after, answer }))
+    match call {
+        ["read", n, length, "="] => {
+            let (n, buffer) = read(heap, n, length)?;
+            let kept = Call::Read(n, blank(heap, buffer.len())?);
+            let answer = refused(why, sector, layer)?;
+            Ok(asked(Call::Read(n, buffer), kept, answer))
+        }
+        ["write", n, bytes, "="] => {
+            let (n, buffer) = write(heap, n, bytes)?;
+            let kept = Call::Write(n, Vec::from_slice(heap, &buffer)?);
+            let answer = refused(why, sector, layer)?;
+            Ok(asked(Call::Write(n, buffer), kept, answer))
+        }
+        _ => Err(anyhow!("no such line")),
+    }
 }
 
 // What the words of a line say.

@@ -52,7 +52,9 @@ impl<R: Room> Room for Next<R> {
             }
             [Layer::Encipher { cipher, hash, key }, above @ ..] => {
                 let layer = CipherLayer::new(stack, cipher.keyed(*key), *hash);
-                <R as Room>::put::<B, Next<N>, CipherLayer<P, AnyCipher, AnyHash>>(layer, above, list)
+                <R as Room>::put::<B, Next<N>, CipherLayer<P, AnyCipher, AnyHash>>(
+                    layer, above, list,
+                )
             }
             [Layer::Window { base, count }, above @ ..] => {
                 let window = Window::new(stack, *base, *count);
