@@ -2,7 +2,7 @@ ghost use Rattle.std.specs.Prelude.{◌≡◌, Ok, Err, is_ok, if◌then◌else�
 ghost use Rattle.elements.specs.Values.{block_operations};
 ghost use Rattle.ciphers.specs.Choice.{cipher_of};
 ghost use Rattle.sector.specs.declared.refusal.Refusal.TheVariants.{BufferLength};
-ghost use Rattle.capi.specs.Blocks.{whole, block_in, bytes_out, product_result, cipher_result};
+ghost use Rattle.capi.specs.Blocks.{whole, block_in, bytes_out, product_result, product_answer, cipher_result, cipher_answer, given};
 
 use ciphers::aes::Aes128;
 use ciphers::choice::Cipher;
@@ -10,7 +10,7 @@ use ciphers::function::BlockFunction;
 use ciphers::speck::Speck128;
 use elements::element::Arithmetic;
 use elements::values::Block;
-use sector::cover::covered;
+use sector::cover::cover_stack;
 use sector::numbers::answer_number;
 use sector::refusal::Refusal;
 
@@ -34,8 +34,8 @@ fn put_block(x: Block, output: &mut [u8]) -> Result<(), Refusal>
     Ok(())
 }
 
-// The product of two blocks. Refused where one of the three is not 16 bytes long; `product` is then as it was.
-pub fn block_product(a: &[u8], b: &[u8], product: &mut [u8]) -> Result<(), Refusal>
+// Writes the product of two blocks.
+fn put_product(a: &[u8], b: &[u8], product: &mut [u8]) -> Result<(), Refusal>
     ensures answer { result ≡ product_result a.now b.now product.old }
     ensures output { product.new ≡ (if is_ok result then bytes_out (block_operations.product (block_in a.now) (block_in b.now)) else product.old) }
 {
@@ -44,9 +44,21 @@ pub fn block_product(a: &[u8], b: &[u8], product: &mut [u8]) -> Result<(), Refus
     put_block(x.mul(y), product)
 }
 
-// One block through a cipher, which leaves the stack uncovered.
-#[inline(never)]
-fn uncovered(cipher: Cipher, key: &[u8], plain: &[u8], output: &mut [u8]) -> Result<(), Refusal>
+// The product of two blocks. Answers 0, or 2 where one of the three is not 16 bytes long; `product` is then as it was.
+pub fn block_product(a: &[u8], b: &[u8], product: &mut [u8]) -> u8
+    ensures answer { result ≡ product_answer a.now b.now product.old }
+    ensures output { product.new ≡ given result (block_operations.product (block_in a.now) (block_in b.now)) product.old }
+{
+    answer_number(put_product(a, b, product))
+}
+
+// Writes one block, put through a cipher.
+fn put_enciphered(
+    cipher: Cipher,
+    key: &[u8],
+    plain: &[u8],
+    output: &mut [u8],
+) -> Result<(), Refusal>
     ensures answer { result ≡ cipher_result key.now plain.now output.old }
     ensures output { output.new ≡ (if is_ok result then bytes_out (cipher_of cipher key.now (block_in plain.now)) else output.old) }
 {
@@ -59,12 +71,21 @@ fn uncovered(cipher: Cipher, key: &[u8], plain: &[u8], output: &mut [u8]) -> Res
     put_block(y, output)
 }
 
-// One block through a cipher under a key. Refused where the key, the block or the output is not 16 bytes long; the output is then
-// as it was.
-pub fn block_by(cipher: Cipher, key: &[u8], plain: &[u8], output: &mut [u8]) -> Result<(), Refusal>
-    ensures answer { result ≡ cipher_result key.now plain.now output.old }
-    ensures output { output.new ≡ (if is_ok result then bytes_out (cipher_of cipher key.now (block_in plain.now)) else output.old) }
+// The same, answered by number. It leaves the stack uncovered.
+#[inline(never)]
+fn uncovered(cipher: Cipher, key: &[u8], plain: &[u8], output: &mut [u8]) -> u8
+    ensures answer { result ≡ cipher_answer key.now plain.now output.old }
+    ensures output { output.new ≡ given result (cipher_of cipher key.now (block_in plain.now)) output.old }
+{
+    answer_number(put_enciphered(cipher, key, plain, output))
+}
+
+// One block through a cipher under a key. Answers 0; 6 where the key is not 16 bytes long; or 2 where the block or the output is
+// not. Refused, the output is as it was.
+pub fn block_by(cipher: Cipher, key: &[u8], plain: &[u8], output: &mut [u8]) -> u8
+    ensures answer { result ≡ cipher_answer key.now plain.now output.old }
+    ensures output { output.new ≡ given result (cipher_of cipher key.now (block_in plain.now)) output.old }
 {
     let answer = uncovered(cipher, key, plain, output);
-    covered(answer, answer_number(answer))
+    answer + cover_stack(answer)
 }

@@ -5,7 +5,7 @@ ghost use Rattle.sector.specs.Refusals.{answer as transform_answer};
 ghost use Rattle.sector.specs.Texts.{transformed_bytes};
 ghost use Rattle.sector.specs.Transform.{tweak};
 ghost use Rattle.capi.specs.Methods.{method_of};
-ghost use Rattle.capi.specs.Sectors.{cipher_of as cipher_by_number, hash_of as hash_by_number, sector_result};
+ghost use Rattle.capi.specs.Sectors.{cipher_of as cipher_by_number, hash_of as hash_by_number, sector_answer, sector_result, transformed_or};
 
 use crate::blocks::sixteen;
 use crate::method::Method;
@@ -16,15 +16,15 @@ use ciphers::speck::Speck128;
 use hashing::choice::AnyHash;
 use hashing::{BrwHash, HornerHash};
 use sector::cipher::SectorCipher;
-use sector::cover::covered;
+use sector::cover::cover_stack;
 use sector::numbers::answer_number;
 use sector::refusal::Refusal;
 use sector::text::Direction;
 
 // The transform with a hash that is chosen at run time. For each hash a cipher of its own type, so that nothing is chosen again
 // for each block.
-fn by_hash<F: BlockFunction>(
-    function: &F,
+fn by_hash<F: BlockFunction + Drop>(
+    function: F,
     hash: AnyHash,
     direction: Direction,
     sector: u64,
@@ -33,7 +33,7 @@ fn by_hash<F: BlockFunction>(
     working: &mut [u8],
 ) -> Result<(), Refusal>
     ensures answer { result ≡ transform_answer (length text.now) (length output.old) (length working.old) }
-    ensures output { output.new ≡ (if is_ok result then transformed_bytes direction (F.function function.now) (hash_of hash) (tweak sector) text.now else output.old) }
+    ensures output { output.new ≡ (if is_ok result then transformed_bytes direction (F.function function) (hash_of hash) (tweak sector) text.now else output.old) }
     ensures working { working.new ≡ replicate (length working.old) 0 }
 {
     match hash {
@@ -77,7 +77,7 @@ impl Method {
     {
         match self.cipher {
             Cipher::Aes => by_hash(
-                &Aes128::new(self.key),
+                Aes128::new(self.key),
                 self.hash,
                 direction,
                 sector,
@@ -86,7 +86,7 @@ impl Method {
                 working,
             ),
             Cipher::Speck => by_hash(
-                &Speck128::new(self.key),
+                Speck128::new(self.key),
                 self.hash,
                 direction,
                 sector,
@@ -98,9 +98,8 @@ impl Method {
     }
 }
 
-// The transform by numbers and a key, which leaves the stack uncovered.
-#[inline(never)]
-fn uncovered(
+// The transform by numbers and a key.
+fn transform_numbered(
     direction: Direction,
     cipher: u8,
     hash: u8,
@@ -123,9 +122,28 @@ fn uncovered(
     }
 }
 
+// The same, answered by number. It leaves the stack uncovered.
+#[inline(never)]
+fn uncovered(
+    direction: Direction,
+    cipher: u8,
+    hash: u8,
+    key: &[u8],
+    sector: u64,
+    text: &[u8],
+    output: &mut [u8],
+    working: &mut [u8],
+) -> u8
+    ensures answer { result ≡ sector_answer cipher hash key.now text.now output.old working.old }
+    ensures output { output.new ≡ transformed_or result direction (cipher_by_number cipher key.now) (hash_by_number hash) sector text.now output.old }
+    ensures working { working.new ≡ replicate (length working.old) 0 }
+{
+    answer_number(transform_numbered(direction, cipher, hash, key, sector, text, output, working))
+}
+
 // Enciphers or deciphers the text of a sector: cipher 1 is AES-128 and 2 Speck128/128, hash 1 is the Horner hash and 2 the BRW
-// hash. Refused: another cipher or hash, or a key that is not 16 bytes long; else what the transform refuses. Refused, the
-// output is as it was. The working bytes are zero afterwards, refused or not.
+// hash. Answers 0; 6 for another cipher or hash, or a key that is not 16 bytes long; else the number of the transform's
+// refusal. Refused, the output is as it was. The working bytes are zero afterwards, refused or not.
 pub fn transform_by(
     direction: Direction,
     cipher: u8,
@@ -135,11 +153,11 @@ pub fn transform_by(
     text: &[u8],
     output: &mut [u8],
     working: &mut [u8],
-) -> Result<(), Refusal>
-    ensures answer { result ≡ sector_result cipher hash key.now text.now output.old working.old }
-    ensures output { output.new ≡ (if is_ok result then transformed_bytes direction (cipher_by_number cipher key.now) (hash_by_number hash) (tweak sector) text.now else output.old) }
+) -> u8
+    ensures answer { result ≡ sector_answer cipher hash key.now text.now output.old working.old }
+    ensures output { output.new ≡ transformed_or result direction (cipher_by_number cipher key.now) (hash_by_number hash) sector text.now output.old }
     ensures working { working.new ≡ replicate (length working.old) 0 }
 {
     let answer = uncovered(direction, cipher, hash, key, sector, text, output, working);
-    covered(answer, answer_number(answer))
+    answer + cover_stack(answer)
 }

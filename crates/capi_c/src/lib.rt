@@ -13,8 +13,7 @@ ghost use Rattle.capi.specs.Sectors.{cipher_of, hash_of, sector_answer, transfor
 use capi::blocks::{block_by, block_product};
 use capi::sectors::transform_by;
 use ciphers::choice::Cipher;
-use sector::numbers::answer_number;
-use sector::text::Direction;
+use sector::text::Direction::{Decipher, Encipher};
 
 // The product of two blocks. Answers 0, or 2 where one of the three is not 16 bytes long; `product` is then as it was.
 #[unsafe(no_mangle)]
@@ -22,7 +21,7 @@ pub extern "C" fn kizdolur_block_product(a: &[u8], b: &[u8], product: &mut [u8])
     ensures answer { result ≡ product_answer a.now b.now product.old }
     ensures output { product.new ≡ given result (block_operations.product (block_in a.now) (block_in b.now)) product.old }
 {
-    answer_number(block_product(a, b, product))
+    block_product(a, b, product)
 }
 
 // AES-128 of one block. Answers 0; 6 where the key is not 16 bytes long; or 2 where the block or the output is not.
@@ -32,7 +31,7 @@ pub extern "C" fn kizdolur_aes128_block(key: &[u8], plain: &[u8], output: &mut [
     ensures answer { result ≡ cipher_answer key.now plain.now output.old }
     ensures output { output.new ≡ given result (aes_128 key.now (block_in plain.now)) output.old }
 {
-    answer_number(block_by(Cipher::Aes, key, plain, output))
+    block_by(Cipher::Aes, key, plain, output)
 }
 
 // Speck128/128 of one block, answered as AES-128 is.
@@ -41,7 +40,7 @@ pub extern "C" fn kizdolur_speck128_block(key: &[u8], plain: &[u8], output: &mut
     ensures answer { result ≡ cipher_answer key.now plain.now output.old }
     ensures output { output.new ≡ given result (speck key.now (block_in plain.now)) output.old }
 {
-    answer_number(block_by(Cipher::Speck, key, plain, output))
+    block_by(Cipher::Speck, key, plain, output)
 }
 
 // Enciphers the text of a sector: cipher 1 is AES-128 and 2 Speck128/128, hash 1 is the Horner hash and 2 the BRW hash.
@@ -61,16 +60,7 @@ pub extern "C" fn kizdolur_encipher(
     ensures output { output.new ≡ transformed_or result Encipher (cipher_of cipher key.now) (hash_of hash) sector text.now output.old }
     ensures working { working.new ≡ replicate (length working.old) 0 }
 {
-    answer_number(transform_by(
-        Direction::Encipher,
-        cipher,
-        hash,
-        key,
-        sector,
-        text,
-        output,
-        working,
-    ))
+    transform_by(Encipher, cipher, hash, key, sector, text, output, working)
 }
 
 // Deciphers the text of a sector, answered as `kizdolur_encipher` is.
@@ -88,14 +78,5 @@ pub extern "C" fn kizdolur_decipher(
     ensures output { output.new ≡ transformed_or result Decipher (cipher_of cipher key.now) (hash_of hash) sector text.now output.old }
     ensures working { working.new ≡ replicate (length working.old) 0 }
 {
-    answer_number(transform_by(
-        Direction::Decipher,
-        cipher,
-        hash,
-        key,
-        sector,
-        text,
-        output,
-        working,
-    ))
+    transform_by(Decipher, cipher, hash, key, sector, text, output, working)
 }

@@ -3,23 +3,20 @@ ghost use Rattle.polynomials.specs.Blocks.{blocks_of};
 ghost use Rattle.sector.specs.Texts.{joined};
 ghost use Rattle.sector.specs.Transform.{counter_mode};
 
-use crate::cipher::SectorCipher;
 use ciphers::function::BlockFunction;
 use elements::element::Arithmetic;
 use elements::values::Block;
 
-impl<F: BlockFunction, H> SectorCipher<F, H> {
-    // Counter mode over the blocks of a tail, the first with the counter 1.
-    pub(crate) fn count(&self, z: Block, text: &[u8], output: &mut [u8])
-        requires { (length output.old ≡ length text.now) × (length text.now % 16 ≡ 0) }
-        ensures { output.new ≡ joined (counter_mode (F.function self.now.function) z 1 (blocks_of text.now)) }
-    {
-        let (blocks, _) = text.as_chunks();
-        for (k, x) in blocks.iter().enumerate() {
-            let mask = self.function.call(z.add(Block::new(k as u128 + 1)));
-            let y = Block::from_bytes(*x).add(mask).to_bytes();
-            // By index: of what `as_chunks_mut` or `chunks_exact_mut` lent, the length alone is known afterwards.
-            output[16 * k..16 * k + 16].copy_from_slice(&y);
-        }
+// Counter mode over the blocks of a tail, the first with the counter 1.
+pub(crate) fn count<F: BlockFunction>(f: &F, z: Block, text: &[u8], output: &mut [u8])
+    requires { (length output.old ≡ length text.now) × (length text.now % 16 ≡ 0) }
+    ensures { output.new ≡ joined (counter_mode (F.function f.now) z 1 (blocks_of text.now)) }
+{
+    let (blocks, _) = text.as_chunks();
+    for (k, x) in blocks.iter().enumerate() {
+        let mask = f.call(z.add(Block::new(k as u128 + 1)));
+        let y = Block::from_bytes(*x).add(mask).to_bytes();
+        // By index: of what `as_chunks_mut` or `chunks_exact_mut` lent, the length alone is known afterwards.
+        output[16 * k..16 * k + 16].copy_from_slice(&y);
     }
 }

@@ -1,7 +1,5 @@
 ghost use Rattle.std.specs.Prelude.{◌≡◌, ◌≤◌, length, replicate};
 
-use crate::refusal::Refusal;
-
 // Zeroes the bytes and answers one of them, which is 0. A compiler that does not know which one is read keeps all the
 // zeroes; it would leave them out where nothing read them.
 fn zeroed(bytes: &mut [u8], at: u8) -> u8
@@ -36,18 +34,4 @@ pub fn cover_stack(at: u8) -> u8
 {
     let mut room = [0u8; 256];
     cover(2, at, &mut room)
-}
-
-// The answer, once the stack below the caller is covered. In the caller's own frame, so that no frame of this function lies
-// between the two.
-#[inline(always)]
-pub fn covered(answer: Result<(), Refusal>, at: u8) -> Result<(), Refusal>
-    ensures { result ≡ answer }
-{
-    // The compiler does not find out that the test always holds, and so keeps the zeros.
-    if cover_stack(at) == 0 {
-        answer
-    } else {
-        Err(Refusal::WorkingLength)
-    }
 }

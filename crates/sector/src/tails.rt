@@ -2,7 +2,6 @@ ghost use Rattle.std.specs.Prelude.{◌≡◌, ◌+◌, ◌%◌, ◌++◌, lengt
 ghost use Rattle.polynomials.specs.Blocks.{blocks_of};
 ghost use Rattle.sector.specs.Transform.{tail_hash as tail_hash_of};
 
-use crate::cipher::SectorCipher;
 use elements::element::Arithmetic;
 use elements::values::Block;
 use hashing::BlockHash;
@@ -18,13 +17,17 @@ fn put_list(list: &mut [u8], first: &[u8], second: &[u8])
     back.copy_from_slice(second);
 }
 
-impl<F, H: BlockHash> SectorCipher<F, H> {
-    // The key times the hash of a tail followed by the tweak. `list` is room for the two.
-    pub(crate) fn tail_hash(&self, key: Block, tweak: Block, tail: &[u8], list: &mut [u8]) -> Block
-        requires { (length list.old ≡ length tail.now + 16) × (length tail.now % 16 ≡ 0) }
-        ensures { result ≡ tail_hash_of (H.hash self.now.hash) key tweak (blocks_of tail.now) }
-    {
-        put_list(list, tail, &tweak.to_bytes());
-        key.mul(self.hash.call(key, Blocks { bytes: list }))
-    }
+// The key times the hash of a tail followed by the tweak. `list` is room for the two.
+pub(crate) fn tail_hash<H: BlockHash>(
+    g: &H,
+    key: Block,
+    tweak: Block,
+    tail: &[u8],
+    list: &mut [u8],
+) -> Block
+    requires { (length list.old ≡ length tail.now + 16) × (length tail.now % 16 ≡ 0) }
+    ensures { result ≡ tail_hash_of (H.hash g.now) key tweak (blocks_of tail.now) }
+{
+    put_list(list, tail, &tweak.to_bytes());
+    key.mul(g.call(key, Blocks { bytes: list }))
 }

@@ -4,12 +4,12 @@ use Rattle.elements.specs.Values.{block}
 use Rattle.sector.specs.Texts.{bytes}
 use Rattle.sector.specs.Transform.{◌⊕◌}
 use Rattle.sector.proofs.Loops.{count_more, count_all}
-use Rattle.sector.proofs.cipher.SectorCipher.count.Goals as goal
+use Rattle.sector.proofs.counter.count.Goals as goal
 
 pub loop-k-preserved : goal.loop-k-preserved
 unfolding bytes
 loop-k-preserved g c =
-    let F = g.F.BlockFunction.function c.args.self.now.function in
+    let F = g.F.BlockFunction.function c.args.f.now in
     let text = c.args.text.now in
     let x = c.from_bytes.ensures ∙ ap (λ (l : List (List ℕ)). block (number_from_digits 256 (get_or l c.loop-k.k []))) c.as_chunks.ensures.front in
     count_more F c.args.z c.loop-k.k (length text / 16) c.from_bytes.result c.add-in-loop-k.result text c.loop-k.output c.copy_from_slice.new.self (omega arith) (omega arith)
@@ -21,4 +21,4 @@ loop-k-preserved g c =
 pub returns : goal.returns
 returns g c =
     let text = c.args.text.now in
-    count_all (g.F.BlockFunction.function c.args.self.now.function) c.args.z c.loop-k.k (length text / 16) text c.loop-k.output _ (omega arith) (omega arith) c.loop-k.invariant
+    count_all (g.F.BlockFunction.function c.args.f.now) c.args.z c.loop-k.k (length text / 16) text c.loop-k.output _ (omega arith) (omega arith) c.loop-k.invariant
