@@ -17,11 +17,11 @@ const LAYERS: [(u16, u16, u16, u16); 5] = [
     (65535, 65535, 65535, 65535),
 ];
 
-// Whether a call was refused with this number, sector and layer.
-fn refused(r: Result<(), Fault>, number: u8, sector: u64, layer: u16) -> bool {
-    match r {
-        Ok(_) => false,
-        Err(fault) => { fault.number() == number && fault.sector == sector && fault.layer == layer }
+// The number, the sector and the layer of a fault.
+fn fault(answer: Result<(), Fault>) -> Option<(u8, u64, u16)> {
+    match answer {
+        Ok(()) => None,
+        Err(fault) => Some((fault.number(), fault.sector, fault.layer)),
     }
 }
 
@@ -30,10 +30,10 @@ fn numbered<S: SectorStore>(rt: &impl Abort, store: &mut S, layer: u16) {
     assert_eq!(rt; store.layer(), layer);
     let mut short = [7; 63];
     let mut whole = [7; 64];
-    assert!(rt; refused(store.read(5, &mut short), 2, 5, layer));
-    assert!(rt; refused(store.write(5, &short), 2, 5, layer));
-    assert!(rt; refused(store.read(6, &mut whole), 4, 6, layer));
-    assert!(rt; refused(store.write(6, &whole), 4, 6, layer));
+    assert_eq!(rt; fault(store.read(5, &mut short)), Some((2, 5, layer)));
+    assert_eq!(rt; fault(store.write(5, &short)), Some((2, 5, layer)));
+    assert_eq!(rt; fault(store.read(6, &mut whole)), Some((4, 6, layer)));
+    assert_eq!(rt; fault(store.write(6, &whole)), Some((4, 6, layer)));
     assert_eq!(rt; short, [7; 63]);
     assert_eq!(rt; whole, [7; 64]);
 }

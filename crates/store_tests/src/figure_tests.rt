@@ -5,17 +5,10 @@ use layers::cipher::CipherLayer;
 use layers::window::Window;
 use media::flat::FlatMedium;
 use media::spared::SparedMedium;
-use sector::refusal::Refusal;
+use sector::numbers::answer_number;
 use std::process::Abort;
 use std::test::Fail;
 use stores::store::SectorStore;
-
-fn number(r: Result<(), Refusal>) -> u8 {
-    match r {
-        Ok(_) => 0,
-        Err(refusal) => refusal.number(),
-    }
-}
 
 // Count, length and layer of a store, and the state of its sectors 0 and 5.
 fn shown<S: SectorStore>(store: &S) -> (u64, usize, u16, u8, u8) {
@@ -54,63 +47,53 @@ const FLAT: [(usize, u64, usize, u8); 18] = [
 ];
 
 // What is made of the figures: as named, or empty with the length 64.
-fn flat(
-    rt: &impl Abort,
-    bytes: &mut [u8],
-    count: u64,
-    length: usize,
-    answer: u8,
-) -> Result<(), Fail> {
+fn flat(rt: &impl Abort, bytes: &mut [u8], count: u64, length: usize, answer: u8) {
     let made = FlatMedium::new(bytes, count, length);
-    if answer != 0 {
-        assert_eq!(rt; shown(&made), (0, 64, 0, 4, 4));
-        return Ok(());
-    }
-    if count == 0 {
-        assert_eq!(rt; shown(&made), (0, length, 0, 4, 4));
-        return Ok(());
-    }
-    assert_eq!(rt; shown(&made), (count, length, 0, 0, 0));
-    Ok(())
+    let wanted = match (answer, count) {
+        (0, 0) => (0, length, 0, 4, 4),
+        (0, _) => (count, length, 0, 0, 0),
+        _ => (0, 64, 0, 4, 4),
+    };
+    assert_eq!(rt; shown(&made), wanted);
 }
 
-fn all_flat(rt: &impl Abort, memory: &mut [u8]) -> Result<(), Fail> {
+fn all_flat(rt: &impl Abort, memory: &mut [u8]) {
     for (bytes, count, length, answer) in FLAT {
-        assert_eq!(rt; number(FlatMedium::check(bytes, count, length)), answer);
+        assert_eq!(rt;
+            answer_number(FlatMedium::check(bytes, count, length)),
+            answer
+        );
         if bytes <= memory.len() {
-            flat(rt, &mut memory[0..bytes], count, length, answer)?;
+            flat(rt, &mut memory[0..bytes], count, length, answer);
         }
     }
-    Ok(())
 }
 
 #[test]
 fn flat_figures(rt: HostRuntime) -> Result<(), Fail> {
     let mut memory = vec![in rt.alloc(); 0; 4194368]?;
-    all_flat(&rt, memory.as_mut_slice())
+    all_flat(&rt, memory.as_mut_slice());
+    Ok(())
 }
 
-// A spared medium of 6 sectors of 64 bytes: the bytes handed in, the spares, the bad sectors and how many they are, what
-// the check answers, and the state of sectors 0 and 5.
-#[derive(Clone, Copy)]
-struct Case(usize, usize, [u64; 6], usize, u8, (u8, u8));
-
-const SPARED: [Case; 13] = [
-    Case(384, 0, [0; 6], 0, 0, (0, 0)),
-    Case(384, 0, [5, 0, 0, 0, 0, 0], 1, 0, (0, 5)),
-    Case(448, 1, [5, 0, 0, 0, 0, 0], 2, 0, (5, 0)),
-    Case(448, 1, [0, 1, 2, 3, 4, 5], 6, 0, (0, 5)),
-    Case(1408, 16, [0, 5, 0, 0, 0, 0], 2, 0, (0, 0)),
+// A spared medium of 6 sectors of 64 bytes: the bytes handed in, the spares, the bad sectors, what the check answers, and
+// the state of sectors 0 and 5.
+const SPARED: [(usize, usize, &[u64], u8, (u8, u8)); 13] = [
+    (384, 0, &[], 0, (0, 0)),
+    (384, 0, &[5], 0, (0, 5)),
+    (448, 1, &[5, 0], 0, (5, 0)),
+    (448, 1, &[0, 1, 2, 3, 4, 5], 0, (0, 5)),
+    (1408, 16, &[0, 5], 0, (0, 0)),
     // a spare too few and one too many for the bytes, one byte too few and one too many, 17 spares
-    Case(448, 0, [0; 6], 0, 6, (4, 4)),
-    Case(384, 1, [0; 6], 0, 6, (4, 4)),
-    Case(447, 1, [0; 6], 0, 6, (4, 4)),
-    Case(449, 1, [0; 6], 0, 6, (4, 4)),
-    Case(1472, 17, [0; 6], 0, 6, (4, 4)),
+    (448, 0, &[], 6, (4, 4)),
+    (384, 1, &[], 6, (4, 4)),
+    (447, 1, &[], 6, (4, 4)),
+    (449, 1, &[], 6, (4, 4)),
+    (1472, 17, &[], 6, (4, 4)),
     // a bad sector not below the count, one listed twice
-    Case(448, 1, [6, 0, 0, 0, 0, 0], 1, 6, (4, 4)),
-    Case(448, 1, [5, 1, 5, 0, 0, 0], 3, 6, (4, 4)),
-    Case(448, 1, [3, 3, 0, 0, 0, 0], 2, 6, (4, 4)),
+    (448, 1, &[6], 6, (4, 4)),
+    (448, 1, &[5, 1, 5], 6, (4, 4)),
+    (448, 1, &[3, 3], 6, (4, 4)),
 ];
 
 fn spared<'a>(
@@ -122,7 +105,7 @@ fn spared<'a>(
     states: (u8, u8),
 ) {
     assert_eq!(rt;
-        number(SparedMedium::check(bytes.len(), 6, 64, spares, bad)),
+        answer_number(SparedMedium::check(bytes.len(), 6, 64, spares, bad)),
         answer
     );
     let made = SparedMedium::new(bytes, 6, 64, spares, bad);
@@ -131,16 +114,9 @@ fn spared<'a>(
 }
 
 fn all_spared(rt: &impl Abort, memory: &mut [u8]) {
-    for Case(bytes, spares, bad, listed, answer, states) in SPARED {
-        assert!(rt; bytes <= memory.len() && listed <= 6);
-        spared(
-            rt,
-            &mut memory[0..bytes],
-            spares,
-            &bad[0..listed],
-            answer,
-            states,
-        );
+    for (bytes, spares, bad, answer, states) in SPARED {
+        assert!(rt; bytes <= memory.len());
+        spared(rt, &mut memory[0..bytes], spares, bad, answer, states);
     }
 }
 
@@ -155,16 +131,19 @@ fn spared_figures(rt: HostRuntime) {
 fn long_lists(rt: HostRuntime) {
     let bad = [0, 1, 2, 3, 4, 5, 6, 7, 8, 9, 10, 11, 12, 13, 14, 15, 16];
     assert_eq!(rt;
-        number(SparedMedium::check(20 * 64, 20, 64, 0, &bad[0..16])),
+        answer_number(SparedMedium::check(20 * 64, 20, 64, 0, &bad[0..16])),
         0
     );
-    assert_eq!(rt; number(SparedMedium::check(20 * 64, 20, 64, 0, &bad)), 6);
     assert_eq!(rt;
-        number(SparedMedium::check(65537 * 64, 65537, 64, 0, &bad[0..16])),
+        answer_number(SparedMedium::check(20 * 64, 20, 64, 0, &bad)),
         6
     );
     assert_eq!(rt;
-        number(SparedMedium::check(48 * 20, 20, 48, 0, &bad[0..16])),
+        answer_number(SparedMedium::check(65537 * 64, 65537, 64, 0, &bad[0..16])),
+        6
+    );
+    assert_eq!(rt;
+        answer_number(SparedMedium::check(48 * 20, 20, 48, 0, &bad[0..16])),
         6
     );
 }
@@ -199,7 +178,7 @@ fn window(rt: &impl Abort, bytes: &mut [u8], base: u64, count: u64, answer: u8, 
         Speck128::new([3; 16]),
         HornerHash,
     );
-    assert_eq!(rt; number(Window::check(&below, base, count)), answer);
+    assert_eq!(rt; answer_number(Window::check(&below, base, count)), answer);
     let window = Window::new(below, base, count);
     let first = if made > 0 { 0 } else { 4 };
     let sixth = if made > 5 { 0 } else { 4 };

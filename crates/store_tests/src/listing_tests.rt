@@ -9,30 +9,43 @@ use std::process::Abort;
 use std::test::Fail;
 use stores::store::SectorStore;
 
-// How many sectors are listed, or 100 and the refusal's number.
-fn listed<'a>(bytes: &'a mut [u8], spares: usize, bad: &'a [u64], buffer: &mut [u64]) -> usize {
-    match SparedMedium::new(bytes, 6, 64, spares, bad).failures(buffer) {
-        Ok(count) => count,
-        Err(refusal) => 100 + usize::from(refusal.number()),
-    }
+// How many sectors are listed, or the refusal's number.
+fn listed<'a>(
+    bytes: &'a mut [u8],
+    spares: usize,
+    bad: &'a [u64],
+    buffer: &mut [u64],
+) -> Result<usize, u8> {
+    SparedMedium::new(bytes, 6, 64, spares, bad)
+        .failures(buffer)
+        .map_err(|refusal| refusal.number())
 }
 
 fn all_listed(rt: &impl Abort, memory: &mut [u8]) {
     assert!(rt; memory.len() == 512);
     // sectors 2 and 5 have no spare
     let mut short = [9];
-    assert_eq!(rt; listed(&mut memory[0..448], 1, &[4, 2, 5], &mut short), 102);
+    assert_eq!(rt;
+        listed(&mut memory[0..448], 1, &[4, 2, 5], &mut short),
+        Err(2)
+    );
     assert_eq!(rt; short, [9]);
     let mut exact = [9, 9];
-    assert_eq!(rt; listed(&mut memory[0..448], 1, &[4, 2, 5], &mut exact), 2);
+    assert_eq!(rt;
+        listed(&mut memory[0..448], 1, &[4, 2, 5], &mut exact),
+        Ok(2)
+    );
     assert!(rt; exact == [2, 5] || exact == [5, 2]);
     let mut longer = [9, 9, 9, 8];
-    assert_eq!(rt; listed(&mut memory[0..448], 1, &[4, 2, 5], &mut longer), 2);
+    assert_eq!(rt;
+        listed(&mut memory[0..448], 1, &[4, 2, 5], &mut longer),
+        Ok(2)
+    );
     assert!(rt; longer == [2, 5, 9, 8] || longer == [5, 2, 9, 8]);
     // none has failed: a spare for each, no bad sector, a medium whose figures break a rule
-    assert_eq!(rt; listed(&mut memory[0..512], 2, &[4, 2], &mut short), 0);
-    assert_eq!(rt; listed(&mut memory[0..384], 0, &[], &mut []), 0);
-    assert_eq!(rt; listed(&mut memory[0..385], 0, &[4, 2, 5], &mut []), 0);
+    assert_eq!(rt; listed(&mut memory[0..512], 2, &[4, 2], &mut short), Ok(0));
+    assert_eq!(rt; listed(&mut memory[0..384], 0, &[], &mut []), Ok(0));
+    assert_eq!(rt; listed(&mut memory[0..385], 0, &[4, 2, 5], &mut []), Ok(0));
     assert_eq!(rt; short, [9]);
 }
 
@@ -63,15 +76,12 @@ fn last_sector(rt: &impl Abort, bytes: &mut [u8]) {
 
 // Whether all bytes but those of the last sector are zero, and those are not.
 fn only_last(bytes: &[u8]) -> bool {
-    if bytes.len() != 4194304 {
-        return false;
+    match bytes.split_last_chunk::<64>() {
+        None => false,
+        Some((front, last)) => {
+            front.len() == 4194240 && front.iter().all(|b| *b == 0) && *last != [0; 64]
+        }
     }
-    let (front, last) = bytes.split_at(4194240);
-    let mut zero = true;
-    for b in front {
-        zero = zero && *b == 0;
-    }
-    zero && last != [0; 64].as_slice()
 }
 
 #[test]

@@ -38,109 +38,102 @@ fn put<'a>(bytes: &'a mut [u8], bad: &'a [u64], list: &mut [Entry]) {
     put_to(SparedMedium::new(bytes, 6, 64, 1, bad), list);
 }
 
+// A call, by its sector, and by the length of its buffer and what fills this.
 #[derive(Clone, Copy)]
-enum Kind {
+enum Asked {
     Count,
     Length,
     Layer,
-    State,
-    Read,
-    Write,
+    State(u64),
+    Read(u64, usize, u8),
+    Write(u64, usize, u8),
 }
 
-// The calls in order, with their sectors, and with the lengths of their buffers and what fills these.
-const CALLS: [(Kind, u64, usize, u8); 20] = [
-    (Kind::Count, 0, 0, 0),
-    (Kind::Length, 0, 0, 0),
-    (Kind::Layer, 0, 0, 0),
-    (Kind::State, 0, 0, 0),
-    (Kind::State, 2, 0, 0),
-    (Kind::State, 3, 0, 0),
-    (Kind::State, u64::MAX, 0, 0),
-    (Kind::Read, 0, 64, 7),
-    (Kind::Read, 1, 64, 7),
-    (Kind::Write, 0, 64, 0x5a),
-    (Kind::Read, 0, 64, 7),
-    (Kind::Write, 1, 63, 0x5a),
-    (Kind::Write, 2, 64, 0x5a),
-    (Kind::Write, 3, 64, 0x5a),
-    (Kind::Read, 1, 65, 7),
-    (Kind::Read, 2, 64, 7),
-    (Kind::Read, u64::MAX, 64, 7),
-    (Kind::Read, 1, 64, 7),
-    (Kind::Write, 0, 64, 0xc3),
-    (Kind::Read, 0, 64, 7),
+const CALLS: [Asked; 20] = [
+    Asked::Count,
+    Asked::Length,
+    Asked::Layer,
+    Asked::State(0),
+    Asked::State(2),
+    Asked::State(3),
+    Asked::State(u64::MAX),
+    Asked::Read(0, 64, 7),
+    Asked::Read(1, 64, 7),
+    Asked::Write(0, 64, 0x5a),
+    Asked::Read(0, 64, 7),
+    Asked::Write(1, 63, 0x5a),
+    Asked::Write(2, 64, 0x5a),
+    Asked::Write(3, 64, 0x5a),
+    Asked::Read(1, 65, 7),
+    Asked::Read(2, 64, 7),
+    Asked::Read(u64::MAX, 64, 7),
+    Asked::Read(1, 64, 7),
+    Asked::Write(0, 64, 0xc3),
+    Asked::Read(0, 64, 7),
 ];
 
-fn call(kind: Kind, sector: u64, buffer: Vec<u8>) -> Call {
-    match kind {
-        Kind::Count => Call::Count,
-        Kind::Length => Call::Length,
-        Kind::Layer => Call::Layer,
-        Kind::State => Call::State(sector),
-        Kind::Read => Call::Read(sector, buffer),
-        Kind::Write => Call::Write(sector, buffer),
-    }
+fn call(asked: Asked, heap: Global) -> Result<Call, AllocError> {
+    Ok(match asked {
+        Asked::Count => Call::Count,
+        Asked::Length => Call::Length,
+        Asked::Layer => Call::Layer,
+        Asked::State(sector) => Call::State(sector),
+        Asked::Read(sector, length, fill) => Call::Read(sector, vec![in heap; fill; length]?),
+        Asked::Write(sector, length, fill) => Call::Write(sector, vec![in heap; fill; length]?),
+    })
 }
 
 fn entries(heap: Global) -> Result<Vec<Entry>, AllocError> {
     let mut list = Vec::new(heap);
-    for (kind, sector, length, fill) in CALLS {
+    for asked in CALLS {
         list.push(Entry {
-            call: call(kind, sector, vec![in heap; fill; length]?),
+            call: call(asked, heap)?,
             answer: None,
         })?;
     }
     Ok(list)
 }
 
-// The number that each call is answered, and the sector and the layer of a fault.
-const ANSWERS: [(u64, u64, u16); 20] = [
-    (3, 0, 0),
-    (64, 0, 0),
-    (4, 0, 0),
-    (0, 0, 0),
-    (5, 0, 0),
-    (4, 0, 0),
-    (4, 0, 0),
-    (0, 0, 0),
-    (0, 0, 0),
-    (0, 0, 0),
-    (0, 0, 0),
-    (2, 1, 4),
-    (5, 4, 0),
-    (4, 3, 4),
-    (2, 1, 4),
-    (5, 4, 0),
-    (4, u64::MAX, 4),
-    (0, 0, 0),
-    (0, 0, 0),
-    (0, 0, 0),
+// The number that each call is answered, or the number, the sector and the layer of a fault.
+type Told = Result<u64, (u8, u64, u16)>;
+
+const ANSWERS: [Told; 20] = [
+    Ok(3),
+    Ok(64),
+    Ok(4),
+    Ok(0),
+    Ok(5),
+    Ok(4),
+    Ok(4),
+    Ok(0),
+    Ok(0),
+    Ok(0),
+    Ok(0),
+    Err((2, 1, 4)),
+    Err((5, 4, 0)),
+    Err((4, 3, 4)),
+    Err((2, 1, 4)),
+    Err((5, 4, 0)),
+    Err((4, u64::MAX, 4)),
+    Ok(0),
+    Ok(0),
+    Ok(0),
 ];
 
-fn told(answer: Option<Answer>) -> (u64, u64, u16) {
+fn told(answer: Answer) -> Told {
     match answer {
-        None => (u64::MAX, 0, 0),
-        Some(Answer::Transfer(Ok(()))) => (0, 0, 0),
-        Some(Answer::Transfer(Err(fault))) => (
-            u64::from(fault.number()),
-            fault.sector,
-            fault.layer,
-        ),
-        Some(Answer::Number(n)) => (n, 0, 0),
-        Some(Answer::State(state)) => (u64::from(state.number()), 0, 0),
+        Answer::Transfer(Ok(())) => Ok(0),
+        Answer::Transfer(Err(fault)) => Err((fault.number(), fault.sector, fault.layer)),
+        Answer::Number(n) => Ok(n),
+        Answer::State(state) => Ok(u64::from(state.number())),
     }
 }
 
-// Whether the buffer of the call at a place in the list holds these bytes.
-fn holds(list: &[Entry], at: usize, bytes: &[u8]) -> bool {
-    match list.get(at) {
-        None => false,
-        Some(entry) => match &entry.call {
-            Call::Read(_, buffer) => buffer.as_slice() == bytes,
-            Call::Write(_, buffer) => buffer.as_slice() == bytes,
-            _ => false,
-        },
+// The buffer of the call at a place in the list.
+fn buffer(list: &[Entry], at: usize) -> Option<&[u8]> {
+    match &list.get(at)?.call {
+        Call::Read(_, buffer) | Call::Write(_, buffer) => Some(buffer.as_slice()),
+        _ => None,
     }
 }
 
@@ -170,32 +163,28 @@ const SPARE: [u8; 64] = [
 
 // The bytes that the medium is lent at first.
 fn drawn(heap: Global) -> Result<Vec<u8>, AllocError> {
-    let mut bytes = Vec::new(heap);
-    let mut x = 11u8;
-    for _ in 0..448 {
-        bytes.push(x)?;
-        x = x.wrapping_add(37);
-    }
-    Ok(bytes)
+    (0..448u32)
+        .map(|i| ((11 + 37 * i) % 256) as u8)
+        .collect(heap)
 }
 
 fn answers(rt: &impl Abort, list: &[Entry]) {
     assert!(rt; list.len() == ANSWERS.len());
     for (entry, wanted) in list.iter().zip(ANSWERS.iter()) {
-        assert_eq!(rt; told(entry.answer), *wanted);
+        assert_eq!(rt; entry.answer.map(told), Some(*wanted));
     }
 }
 
 fn buffers(rt: &impl Abort, list: &[Entry]) {
-    assert!(rt; holds(list, 7, &FIRST));
-    assert!(rt; holds(list, 8, &SECOND));
-    assert!(rt; holds(list, 9, &[0x5a; 64]));
-    assert!(rt; holds(list, 10, &[0x5a; 64]));
-    assert!(rt; holds(list, 14, &[7; 65]));
-    assert!(rt; holds(list, 15, &[7; 64]));
-    assert!(rt; holds(list, 16, &[7; 64]));
-    assert!(rt; holds(list, 17, &SECOND));
-    assert!(rt; holds(list, 19, &[0xc3; 64]));
+    assert!(rt; buffer(list, 7) == Some(FIRST.as_slice()));
+    assert!(rt; buffer(list, 8) == Some(SECOND.as_slice()));
+    assert!(rt; buffer(list, 9) == Some([0x5a; 64].as_slice()));
+    assert!(rt; buffer(list, 10) == Some([0x5a; 64].as_slice()));
+    assert!(rt; buffer(list, 14) == Some([7; 65].as_slice()));
+    assert!(rt; buffer(list, 15) == Some([7; 64].as_slice()));
+    assert!(rt; buffer(list, 16) == Some([7; 64].as_slice()));
+    assert!(rt; buffer(list, 17) == Some(SECOND.as_slice()));
+    assert!(rt; buffer(list, 19) == Some([0xc3; 64].as_slice()));
 }
 
 #[test]
