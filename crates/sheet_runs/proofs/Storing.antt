@@ -1,21 +1,21 @@
 -- The store of a setting, and what its calls answer. Assumes nothing.
-use Rattle.std.proofs.Common.{◌≡◌, ℕ, ◌+◌, ◌-◌, ◌*◌, ◌%◌, ◌<◌, ◌≤◌, Bool, true, false, cond, ◌&&◌, eqb, ltb, leb, List, [], ◌∷◌, ◌++◌, length, take, replicate, Some, None, Ok, Err, Option, Result, sym, refl, ap, ◌∙◌, subst, ⊎_elim, mul-le-mul_right, add-mul, arith, length-append}
+use Rattle.std.proofs.Common.{◌≡◌, ℕ, ◌+◌, ◌-◌, ◌*◌, ◌%◌, ◌<◌, ◌≤◌, true, leb, List, [], ◌∷◌, ◌++◌, length, take, replicate, Some, None, Ok, Err, Option, Result, sym, refl, ap, ◌∙◌, subst, ⊎_elim, mul-le-mul_right, add-mul, arith, length-append}
 use mathlib.Core.Path.{fun_ext}
 use lib.ListN.{length-replicate}
 use Rattle.std.proofs.lemmas.List.{take-replicate, drop-replicate}
-use Rattle.std.proofs.lemmas.Bool.{and_parts, and_from, ltb-true, leb-true, le-leb, eqb-true, eq-eqb, cond-true, cases_Bool}
+use Rattle.std.proofs.lemmas.Bool.Decides.{nat_tests}
+use Rattle.std.proofs.lemmas.Bool.{le-leb, cond-true}
 use Rattle.elements.specs.declared.values.Block.{Block}
 use Rattle.ciphers.specs.Choice.{cipher_of}
 use Rattle.hashing.specs.Choice.{hash_of}
 use Rattle.sector.specs.Texts.{bytes, joined, bytes_of, text_of, deciphered_bytes}
 use Rattle.sector.specs.Transform.{Text, tweak, deciphered}
 use Rattle.sector.specs.declared.refusal.Refusal.{Refusal}
-use Rattle.sector.specs.declared.refusal.Refusal.TheVariants.{BufferLength, SectorNumber}
 use Rattle.sector.proofs.Bytes.{length_bytes}
 use Rattle.stores.specs.declared.fault.Fault.{Fault}
 use Rattle.stores.specs.Stores.{Store, refusal, state}
 use Rattle.stores.specs.Layers.{enciphering, stacked}
-use Rattle.media.specs.Media.{place, flat_store, flat_figures, within_limits}
+use Rattle.media.specs.Media.{place, flat_store, flat_figures}
 use Rattle.stacks.specs.declared.call.Entry.{Entry}
 use Rattle.stacks.specs.declared.call.Answer.{Answer}
 use Rattle.stacks.specs.declared.call.Answer.TheVariants.{Transfer, Number, State}
@@ -38,12 +38,7 @@ law_answers s es es' ls ls' low low' e law = record {
 
 -- what figures of a setting are
 pub figures_are : (l n : ℕ) → figures l n ≡ true → (64 ≤ l) × (l ≤ 4096) × (l % 16 ≡ 0) × (1 ≤ n) × (l * n ≤ 32768)
-figures_are l n e =
-    let p = and_parts (leb 64 l) (leb l 4096 && (eqb (l % 16) 0 && (leb 1 n && leb (l * n) 32768))) e in
-    let q = and_parts (leb l 4096) (eqb (l % 16) 0 && (leb 1 n && leb (l * n) 32768)) p.1 in
-    let r = and_parts (eqb (l % 16) 0) (leb 1 n && leb (l * n) 32768) q.1 in
-    let t = and_parts (leb 1 n) (leb (l * n) 32768) r.1 in
-    (leb-true 64 l p.0, leb-true l 4096 q.0, eqb-true (l % 16) 0 r.0, leb-true 1 n t.0, leb-true (l * n) 32768 t.1)
+figures_are l n e = (grind (arith, nat_tests), grind (arith, nat_tests), grind (arith, nat_tests), grind (arith, nat_tests), grind (arith, nat_tests))
 
 few : (l n : ℕ) → 64 ≤ l → l * n ≤ 32768 → n ≤ 65536
 few l n h k = let m : 1 * n ≤ l * n = mul-le-mul_right n (omega arith) in omega arith
@@ -51,10 +46,9 @@ few l n h k = let m : 1 * n ≤ l * n = mul-le-mul_right n (omega arith) in omeg
 flat_fits : (l n : ℕ) → figures l n ≡ true → flat_figures (length {A = ℕ} (replicate (n * l) 0)) n l ≡ true
 flat_fits l n e =
     let f = figures_are l n e in
-    and_from (within_limits n l) (eqb (n * l) (length {A = ℕ} (replicate (n * l) 0)))
-    (and_from (leb n 65536) _ (le-leb n 65536 (few l n f.0 f.4))
-    (and_from (leb 64 l) _ (le-leb 64 l f.0) (and_from (leb l 4096) _ (le-leb l 4096 f.1) (eq-eqb (l % 16) 0 f.2))))
-    (eq-eqb (n * l) (length {A = ℕ} (replicate (n * l) 0)) (sym (length-replicate (n * l) 0)))
+    let few_enough : n ≤ 65536 = few l n f.0 f.4 in
+    let long : length {A = ℕ} (replicate (n * l) 0) ≡ n * l = length-replicate (n * l) 0 in
+    rw long (grind (arith, nat_tests))
 
 -- one sector of a zeroed medium
 zero_place : (l n k : ℕ) → k < n → place (replicate (n * l) 0) l k ≡ replicate l 0
@@ -111,19 +105,11 @@ module _ (g : Setting) where
 
   store_said : (n len : ℕ) → refused_of (refusal (fresh g) n len) ≡ store_answer g n len
   unfolding refusal refused_of
-  store_said n len = ⊎_elim
-      (λ (same : eqb len g.length ≡ true). ⊎_elim (λ (low : ltb n g.count ≡ true). rw (same, low)) (λ (high : ltb n g.count ≡ false). rw (same, high)) (cases_Bool (ltb n g.count)))
-      (λ (other : eqb len g.length ≡ false). rw other)
-      (cases_Bool (eqb len g.length))
-
-  accepted_tests : (b d : Bool) (x y : Refusal) → ◌≡◌ {A = Result (Unit {0}) Refusal} (cond b (cond d (Ok tt) (Err x)) (Err y)) (Ok tt) → d ≡ true
-  accepted_tests true true x y e = refl
-  accepted_tests true false x y e = cc
-  accepted_tests false d x y e = cc
+  store_said n len = grind (arith, nat_tests)
 
   below : (n len : ℕ) → refusal (fresh g) n len ≡ None → n < g.count
-  unfolding refused_of
-  below n len e = ltb-true n g.count (accepted_tests (eqb len g.length) (ltb n g.count) SectorNumber BufferLength (sym (store_said n len) ∙ ap refused_of e))
+  unfolding refusal
+  below n len e = grind (arith, nat_tests)
 
   read_fresh : (before : List Ask) (n : ℕ) (xs : List ℕ) (v : Option Fault) (q' : Ask) (a : Option Answer) → (v ≡ None → n < g.count)
       → ReadAnswer (flat_of g) before n xs v q' a → ReadAnswer (fresh g) before n xs v q' a
