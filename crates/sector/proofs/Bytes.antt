@@ -1,6 +1,7 @@
 -- Texts as bytes and as blocks. Assumes nothing.
 use Rattle.std.proofs.Common.{◌≡◌, ℕ, zero, suc, ◌-◌, ◌*◌, ◌/◌, ◌%◌, ◌^◌, ◌<◌, ◌≤◌, List, [], ◌∷◌, ◌++◌, length, take, drop, sym, refl, ap, ◌∙◌, subst, ap₂, mod-eq_of_lt, arith}
 use Rattle.std.specs.Int.Digits.{number_from_digits, AllBelowBase}
+use Rattle.std.proofs.ByRecursion.{All-take, All-drop}
 use Rattle.std.proofs.lemmas.Int.Digits.{number_lt}
 use Rattle.std.proofs.lemmas.List.{take_at, drop_at, take_all, drop-drop, append_assoc, length-append, length-take-le, length-drop, take-append-drop, take-append-le, drop-append-le}
 use Rattle.elements.specs.Endian.{big_endian}
@@ -50,18 +51,8 @@ blocks_of_joined M =
     let n : length (joined M) / 16 ≡ length M = omega (arith, length_joined M) in
     ap (λ (k : ℕ). blocks k (joined M)) n ∙ blocks_joined M
 
-under_take : (n : ℕ) (t : List ℕ) → AllBelowBase 256 t → AllBelowBase 256 (take n t)
-under_take zero t u = tt
-under_take (suc n) [] u = tt
-under_take (suc n) (x ∷ t) u = (u.0, under_take n t u.1)
-
-under_drop : (n : ℕ) (t : List ℕ) → AllBelowBase 256 t → AllBelowBase 256 (drop n t)
-under_drop zero t u = u
-under_drop (suc n) [] u = tt
-under_drop (suc n) (x ∷ t) u = under_drop n t u.1
-
 front_piece : (t : List ℕ) → 16 ≤ length t → AllBelowBase 256 t → bytes (block (number_from_digits 256 (take 16 t))) ≡ take 16 t
-front_piece t h u = bytes_block (take 16 t) (length-take-le 16 t h) (under_take 16 t u)
+front_piece t h u = bytes_block (take 16 t) (length-take-le 16 t h) (All-take (λ x. x < 256) 16 t u)
 
 joined_blocks : (n : ℕ) (t : List ℕ) → length t ≡ 16 * n → AllBelowBase 256 t → joined (blocks n t) ≡ t
 joined_blocks zero [] e u = refl
@@ -69,7 +60,7 @@ joined_blocks zero (x ∷ t) e u = absurd (omega arith)
 joined_blocks (suc n) t e u =
     let l : 16 ≤ length t = omega arith in
     let d : length (drop 16 t) ≡ 16 * n = length-drop 16 t ∙ omega arith in
-    ap₂ ◌++◌ (front_piece t l u) (joined_blocks n (drop 16 t) d (under_drop 16 t u)) ∙ take-append-drop 16 t
+    ap₂ ◌++◌ (front_piece t l u) (joined_blocks n (drop 16 t) d (All-drop (λ x. x < 256) 16 t u)) ∙ take-append-drop 16 t
 
 -- one more block at the end
 blocks_push : (n : ℕ) (t s : List ℕ) → length t ≡ 16 * n → length s ≡ 16 → blocks (suc n) (t ++ s) ≡ blocks n t ++ (block (number_from_digits 256 s) ∷ [])
@@ -113,8 +104,8 @@ unfolding text_of bytes_of
 bytes_text t h m u =
     let d : length (drop 16 t) ≡ length t - 16 = length-drop 16 t in
     let d' : length (drop 32 t) ≡ 16 * (length (drop 32 t) / 16) = omega (arith, length-drop 32 t) in
-    let last : joined (blocks_of (drop 32 t)) ≡ drop 32 t = joined_blocks (length (drop 32 t) / 16) (drop 32 t) d' (under_drop 32 t u) in
-    ap₂ ◌++◌ (ap₂ ◌++◌ (front_piece t (omega arith) u) (front_piece (drop 16 t) (omega arith) (under_drop 16 t u))) last
+    let last : joined (blocks_of (drop 32 t)) ≡ drop 32 t = joined_blocks (length (drop 32 t) / 16) (drop 32 t) d' (All-drop (λ x. x < 256) 32 t u) in
+    ap₂ ◌++◌ (ap₂ ◌++◌ (front_piece t (omega arith) u) (front_piece (drop 16 t) (omega arith) (All-drop (λ x. x < 256) 16 t u))) last
     ∙ append_assoc (take 16 t) (take 16 (drop 16 t)) (drop 32 t)
     ∙ ap (λ (l : List ℕ). take 16 t ++ (take 16 (drop 16 t) ++ l)) (sym (drop-drop 16 16 t))
     ∙ ap (λ (l : List ℕ). take 16 t ++ l) (take-append-drop 16 (drop 16 t))
