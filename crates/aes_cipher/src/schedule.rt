@@ -106,6 +106,7 @@ impl<'a> CipherKey<'a> {
         let mut rows = [RoundKey {
             columns: [[0; 4]; 4],
         }; N];
+        // By the index, which is the standard's: word i is made of words i - 1 and i - nk of the array that is being filled.
         for i in 0..4 * N {
             let column = self.next(&rows, i);
             put(&mut rows, i, column);

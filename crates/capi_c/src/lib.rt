@@ -1,7 +1,7 @@
 #![tactic(auto)]
 
 // The functions for callers in C, on byte slices: each slice is a pointer and then a length (capi/include/kizdolur.h). Each
-// answers 0 or the number of a refusal.
+// answers 0 or the number of a refusal, as C has no Result, and has a name and a signature of its own.
 ghost use Rattle.std.specs.Prelude.{◌≡◌, length, replicate};
 ghost use Rattle.elements.specs.Values.{block_operations};
 ghost use Rattle.ciphers.specs.Aes.{aes_128};

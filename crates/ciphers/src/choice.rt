@@ -18,7 +18,7 @@ pub enum Cipher {
 #[derive(Clone, Copy, Debug, PartialEq, Eq)]
 pub struct UnknownCipher(pub u8);
 
-// A cipher under one key, where the choice of the cipher is made at run time.
+// A cipher under one key, where the choice of the cipher is made at run time. An enum, as there is no heap for a dyn.
 #[derive(Clone, Copy)]
 pub enum AnyCipher {
     Aes(Aes128),

@@ -66,7 +66,7 @@ impl Block {
         Block { value }
     }
 
-    // The block that lies as these bytes.
+    // The block that lies as these bytes. Named as std's `from_be_bytes` is: a `From` would not tell numbers from bytes.
     pub fn from_bytes(bytes: [u8; 16]) -> Block
         ensures { result ≡ block (number_from_digits 256 bytes) }
     {

@@ -5,7 +5,7 @@ use crate::{BlockHash, BrwHash, HornerHash};
 use elements::values::Block;
 use polynomials::views::Blocks;
 
-// A hash, where the choice is made at run time.
+// A hash, where the choice is made at run time. An enum, as there is no heap for a dyn.
 #[derive(Clone, Copy, Debug, PartialEq, Eq)]
 pub enum AnyHash {
     Horner,

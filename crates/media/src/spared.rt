@@ -15,7 +15,7 @@ use sector::refusal::Refusal;
 pub type SparedMedium<'a> = Medium<'a, Spares<'a>>;
 
 // Each sector in the place of its number, but for the bad ones: these lie in the spare places that follow, as they are
-// listed.
+// listed. The list is searched in order: it has at most 16 entries, and there is no heap for a map.
 #[derive(Drop)]
 pub struct Spares<'a> {
     count: u64,

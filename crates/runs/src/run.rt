@@ -61,7 +61,7 @@ impl From<TooDeep> for Failure {
 // What there is to say of a run: in how many calls it agrees, beside its figures and the bytes at the end.
 pub(crate) type Verdict = Result<usize, Failure>;
 
-// How many runs agree and how many do not.
+// How many runs agree and how many do not. A tally of lines (`verdicts`) looks the same and counts verdicts of another type.
 #[derive(Clone, Copy)]
 pub(crate) struct Tally {
     pub(crate) agree: u64,

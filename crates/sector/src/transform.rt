@@ -105,7 +105,8 @@ impl<F: BlockFunction, H: BlockHash> SectorCipher<F, H> {
 
     // Enciphers or deciphers the text of a sector into the output. Refused: a text that is not a multiple of 16 bytes
     // from 64 to 4,096; an output that is not as long as the text; fewer working bytes than the text's less 16. The output
-    // is then as it was. The working bytes are zero afterwards, refused or not.
+    // is then as it was. The working bytes are zero afterwards, refused or not. The three buffers come one by one, as callers
+    // lend them.
     pub fn transform(
         &self,
         direction: Direction,
