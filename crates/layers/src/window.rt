@@ -25,7 +25,8 @@ impl Run {
     }
 }
 
-// A run of sectors of the store below: sector i is sector base + i there.
+// A run of sectors of the store below: sector i is sector base + i there. Each call tests the figures again, since `new`
+// promises that a window keeps those it is made with.
 #[derive(Drop)]
 pub struct Window<S: SectorStore> {
     below: S,

@@ -2,6 +2,7 @@
 use Rattle.std.proofs.Common.{◌≡◌, ℕ, suc, ◌+◌, ◌%◌, ◌<◌, ◌≤◌, cond, ltb, List, [], ◌∷◌, ◌++◌, length, take, set, Some, sym, refl, ap, ◌∙◌, subst, ⊎_elim, add-one, arith, length-set, take_all}
 use Rattle.std.specs.List.{slice_get}
 use Rattle.std.proofs.lemmas.Bool.{cases_eq, cases_lt, cond-true, cond-false, lt-ltb, le-ltb}
+use Rattle.std.proofs.lemmas.List.{map-append}
 use Rattle.std.proofs.lemmas.Option.{slice_get_within}
 use Rattle.stores.specs.Stores.{Store}
 use Rattle.stores.specs.Layers.{Layer, Stack, Sound, stacked, store}
@@ -12,7 +13,7 @@ use Rattle.stacks.specs.Calls.{Ask, ask, asks}
 use Rattle.stacks.specs.Laid.{laid}
 use Rattle.stacks.specs.Law.{Right, Moves, Holds, Law}
 use Rattle.stacks.specs.Steps.{Step, Octets}
-use Rattle.stacks.proofs.Nths.{nth_set_same, nth_set_other, take_nth, map_push}
+use Rattle.stacks.proofs.Nths.{nth_set_same, nth_set_other, take_nth}
 use Rattle.stacks.proofs.Histories.{holding, Kept, kept_none, Next, next, holds_of}
 use Rattle.stacks.proofs.Lowered.{Heard, Low, lowered}
 
@@ -66,7 +67,7 @@ module _ (ls : List Layer) (s u u' : Store) (long : 64 ≤ s.size) (even : s.siz
   from = sym (t.rest i (omega arith)) ∙ at_i
 
   one_more : asks (take (i + 1) es) ≡ asks (take i es) ++ ask e.call ∷ []
-  one_more = ap (λ z. asks (take z es)) (add-one i) ∙ ap asks (take_nth es i e from) ∙ map_push (λ (z : Entry). ask z.call) (take i es) e
+  one_more = ap (λ z. asks (take z es)) (add-one i) ∙ ap asks (take_nth es i e from) ∙ map-append (λ (z : Entry). ask z.call) (take i es) (e ∷ [])
 
   kept_more : Kept ls s n.holds (asks (take (i + 1) es))
   kept_more = subst (Kept ls s n.holds) (sym one_more) n.kept
