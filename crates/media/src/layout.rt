@@ -4,7 +4,8 @@ ghost use Rattle.media.specs.Media.{place as place_of};
 
 // Where the sectors of a medium lie: each in a place of its own, and one that has none has failed.
 pub(crate) trait Layout {
-    // Whether its figures keep the rules.
+    // Whether its figures keep the rules. A member and no ghost field of `Spares`: with one the checker ends at
+    // `SparedMedium::new` with "a bug in rattle and not in your code".
     ghost keeps: { Self → Bool };
 
     ghost sectors: { Self → ℕ };
