@@ -64,6 +64,7 @@ fn put_enciphered(
 {
     let key = sixteen(key, Refusal::Figures)?;
     let x = Block::from_bytes(sixteen(plain, Refusal::BufferLength)?);
+    // By type: the key of either cipher, as `Cipher::keyed` has it, takes the room of the larger.
     let y = match cipher {
         Cipher::Aes => Aes128::new(key).call(x),
         Cipher::Speck => Speck128::new(key).call(x),

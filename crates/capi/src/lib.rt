@@ -1,6 +1,6 @@
 #![tactic(auto)]
 
-// What `capi_c` exports to callers in C, on byte slices, without the numbers by which C is answered.
+// What `capi_c` exports to callers in C, on byte slices.
 pub mod blocks;
 mod method;
 pub mod sectors;

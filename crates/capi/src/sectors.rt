@@ -11,44 +11,13 @@ use crate::blocks::sixteen;
 use crate::method::Method;
 use ciphers::aes::Aes128;
 use ciphers::choice::Cipher;
-use ciphers::function::BlockFunction;
 use ciphers::speck::Speck128;
 use hashing::choice::AnyHash;
-use hashing::{BrwHash, HornerHash};
 use sector::cipher::SectorCipher;
 use sector::cover::cover_stack;
 use sector::numbers::answer_number;
 use sector::refusal::Refusal;
 use sector::text::Direction;
-
-// The transform with a hash that is chosen at run time. For each hash a cipher of its own type, so that nothing is chosen again
-// for each block.
-fn by_hash<F: BlockFunction + Drop>(
-    function: F,
-    hash: AnyHash,
-    direction: Direction,
-    sector: u64,
-    text: &[u8],
-    output: &mut [u8],
-    working: &mut [u8],
-) -> Result<(), Refusal>
-    ensures answer { result ≡ transform_answer (length text.now) (length output.old) (length working.old) }
-    ensures output { output.new ≡ (if is_ok result then transformed_bytes direction (F.function function) (hash_of hash) (tweak sector) text.now else output.old) }
-    ensures working { working.new ≡ replicate (length working.old) 0 }
-{
-    match hash {
-        AnyHash::Horner => SectorCipher {
-            function,
-            hash: HornerHash,
-        }
-        .transform(direction, sector, text, output, working),
-        AnyHash::Brw => SectorCipher {
-            function,
-            hash: BrwHash,
-        }
-        .transform(direction, sector, text, output, working),
-    }
-}
 
 impl Method {
     // The method of these numbers and this key.
@@ -75,25 +44,17 @@ impl Method {
         ensures output { output.new ≡ (if is_ok result then transformed_bytes direction (cipher_of self.cipher self.key) (hash_of self.hash) (tweak sector) text.now else output.old) }
         ensures working { working.new ≡ replicate (length working.old) 0 }
     {
+        // For each cipher a type of its own, so that none is chosen again for each block.
+        let hash = self.hash;
         match self.cipher {
-            Cipher::Aes => by_hash(
-                Aes128::new(self.key),
-                self.hash,
-                direction,
-                sector,
-                text,
-                output,
-                working,
-            ),
-            Cipher::Speck => by_hash(
-                Speck128::new(self.key),
-                self.hash,
-                direction,
-                sector,
-                text,
-                output,
-                working,
-            ),
+            Cipher::Aes => {
+                let function = Aes128::new(self.key);
+                SectorCipher { function, hash }.transform(direction, sector, text, output, working)
+            }
+            Cipher::Speck => {
+                let function = Speck128::new(self.key);
+                SectorCipher { function, hash }.transform(direction, sector, text, output, working)
+            }
         }
     }
 }

@@ -16,7 +16,7 @@ pub trait BlockFunction {
     // The function itself.
     ghost function: { Self → Block → Block };
 
-    // The constant, for generic code.
+    // The constant, for generic code: its clause ties the two.
     fn key_bytes() -> usize
         ensures { result ≡ key_length };
 
@@ -24,7 +24,8 @@ pub trait BlockFunction {
         ensures { result ≡ function self.now x };
 }
 
-// A reference calls what it points to.
+// A reference calls what it points to. That its constant is the one below cannot be said: under a bound, no two reads of a
+// constant are known to be equal.
 impl<F: BlockFunction> BlockFunction for &F {
     const KEY_LENGTH: usize = F::KEY_LENGTH;
 

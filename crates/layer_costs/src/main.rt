@@ -12,6 +12,7 @@ use hashing::choice::AnyHash;
 use hashing::{BlockHash, BrwHash, HornerHash};
 use layers::cipher::CipherLayer;
 use media::flat::FlatMedium;
+use sector::cipher::SectorCipher;
 use stacks::stack::{Next, Zero};
 use std::env;
 use stores::store::SectorStore;
@@ -40,20 +41,13 @@ impl Work {
     }
 }
 
-// How a layer enciphers.
-#[derive(Clone, Copy)]
-struct Rule<F, H> {
-    function: F,
-    hash: H,
-}
-
 // A number of layers.
 trait Depth {
     // Puts the calls to so many layers on a store, and gives the store back.
     fn over<S: SectorStore, F: BlockFunction + Copy, H: BlockHash + Copy>(
         work: Work,
         store: S,
-        rule: Rule<F, H>,
+        cipher: SectorCipher<F, H>,
         buffer: &mut [u8],
     ) -> S;
 }
@@ -62,7 +56,7 @@ impl Depth for Zero {
     fn over<S: SectorStore, F: BlockFunction + Copy, H: BlockHash + Copy>(
         work: Work,
         mut store: S,
-        _rule: Rule<F, H>,
+        _cipher: SectorCipher<F, H>,
         buffer: &mut [u8],
     ) -> S {
         work.put(&mut store, buffer);
@@ -74,11 +68,11 @@ impl<D: Depth> Depth for Next<D> {
     fn over<S: SectorStore, F: BlockFunction + Copy, H: BlockHash + Copy>(
         work: Work,
         store: S,
-        rule: Rule<F, H>,
+        cipher: SectorCipher<F, H>,
         buffer: &mut [u8],
     ) -> S {
-        let layer = CipherLayer::new(store, rule.function, rule.hash);
-        D::over(work, layer, rule, buffer).into_below()
+        let layer = CipherLayer::new(store, cipher.function, cipher.hash);
+        D::over(work, layer, cipher, buffer).into_below()
     }
 }
 
@@ -96,14 +90,14 @@ impl Stack {
         self,
         work: Work,
         store: S,
-        rule: Rule<F, H>,
+        cipher: SectorCipher<F, H>,
         buffer: &mut [u8],
     ) -> S {
         match self.layers {
-            1 => <Next<Zero> as Depth>::over(work, store, rule, buffer),
-            2 => <Next<Next<Zero>> as Depth>::over(work, store, rule, buffer),
-            4 => <Next<Next<Next<Next<Zero>>>> as Depth>::over(work, store, rule, buffer),
-            _ => <Zero as Depth>::over(work, store, rule, buffer),
+            1 => <Next<Zero> as Depth>::over(work, store, cipher, buffer),
+            2 => <Next<Next<Zero>> as Depth>::over(work, store, cipher, buffer),
+            4 => <Next<Next<Next<Next<Zero>>>> as Depth>::over(work, store, cipher, buffer),
+            _ => <Zero as Depth>::over(work, store, cipher, buffer),
         }
     }
 
@@ -118,11 +112,11 @@ impl Stack {
         match self.hash {
             AnyHash::Horner => {
                 let hash = HornerHash;
-                self.over(work, store, Rule { function, hash }, buffer)
+                self.over(work, store, SectorCipher { function, hash }, buffer)
             }
             AnyHash::Brw => {
                 let hash = BrwHash;
-                self.over(work, store, Rule { function, hash }, buffer)
+                self.over(work, store, SectorCipher { function, hash }, buffer)
             }
         }
     }

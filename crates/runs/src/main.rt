@@ -19,10 +19,10 @@ fn read_at(heap: Global, stage: Stage, text: &str) -> anyhow::Result<Option<(Lin
     let Some(line) = read_line(heap, text.strip_suffix('\n').unwrap_or(text))? else {
         return Ok(None);
     };
-    match stage.after(&line) {
-        Some(next) => Ok(Some((line, next))),
-        None => Err(anyhow!("a line out of turn")),
-    }
+    let next = stage
+        .after(&line)
+        .ok_or_else(|| anyhow!("a line out of turn"))?;
+    Ok(Some((line, next)))
 }
 
 // Reads all runs, and prints what there is to say of each.
@@ -71,22 +71,17 @@ fn tell(rt: &HostRuntime, name: u64, verdict: Verdict) -> anyhow::Result<()> {
     Ok(())
 }
 
-// Judges all runs and prints how many agree. It is an error if some differ.
-fn judge_runs(rt: &HostRuntime) -> anyhow::Result<()> {
+// Judges all runs and prints how many agree.
+fn judge_runs(rt: &HostRuntime) -> anyhow::Result<Tally> {
     let tally = judge(rt)?;
-    let agree = tally.agree;
-    let differ = tally.differ;
-    println!(rt; "{agree} agree, {differ} differ")?;
-    if differ > 0 {
-        return Err(anyhow!("some runs differ"));
-    }
-    Ok(())
+    println!(rt; "{} agree, {} differ", tally.agree, tally.differ)?;
+    Ok(tally)
 }
 
-// An error, of which nothing is printed, ends the program with status 1.
+// Runs that differ, or an error, of which nothing is printed, end the program with status 1.
 fn main(rt: HostRuntime) -> ExitCode {
     match judge_runs(&rt) {
-        Ok(()) => ExitCode::SUCCESS,
-        Err(_) => ExitCode::FAILURE,
+        Ok(tally) if tally.differ == 0 => ExitCode::SUCCESS,
+        _ => ExitCode::FAILURE,
     }
 }

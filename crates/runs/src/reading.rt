@@ -40,6 +40,7 @@ fn figure(word: &str, name: &str) -> anyhow::Result<u64> {
     number(named(word, name)?)
 }
 
+// By ranges: capitals, which `to_digit` takes, are no digits here.
 fn digit(c: u8) -> anyhow::Result<u8> {
     match c {
         b'0'..=b'9' => Ok(c - b'0'),
@@ -104,10 +105,8 @@ fn encipher(heap: Global, cipher: &str, hash: &str, key: &str) -> anyhow::Result
         _ => return Err(anyhow!("no hash")),
     };
     let key = hex(heap, key)?;
-    match <[u8; 16]>::try_from(key.as_slice()) {
-        Ok(key) => Ok(Line::Layer(Layer::Encipher { cipher, hash, key })),
-        Err(_) => Err(anyhow!("no key")),
-    }
+    let key = <[u8; 16]>::try_from(key.as_slice()).map_err(|_| anyhow!("no key"))?;
+    Ok(Line::Layer(Layer::Encipher { cipher, hash, key }))
 }
 
 // The sector that a read names, and a buffer of this length for it.

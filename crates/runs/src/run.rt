@@ -61,7 +61,8 @@ impl From<TooDeep> for Failure {
 // What there is to say of a run: in how many calls it agrees, beside its figures and the bytes at the end.
 pub(crate) type Verdict = Result<usize, Failure>;
 
-// How many runs agree and how many do not. A tally of lines (`verdicts`) looks the same and counts verdicts of another type.
+// How many runs agree and how many do not. One tally for these and for lines (`verdicts`) would count bools,
+// and stand on the crates of known answers.
 #[derive(Clone, Copy)]
 pub(crate) struct Tally {
     pub(crate) agree: u64,
