@@ -13,8 +13,7 @@ use stacks::stack::{Next, Zero};
 use std::alloc::{AllocError, Global};
 use stores::store::SectorStore;
 
-// Puts the calls to an enciphering layer over a store. It is generic since the check takes no layer with a chosen cipher
-// over lent memory in code that names their types.
+// Puts the calls to an enciphering layer over a store.
 fn put_through<S: SectorStore + Drop, F: BlockFunction + Drop, H: BlockHash + Drop>(
     below: S,
     function: F,
