@@ -1,3 +1,2 @@
 pub mod Failing
-pub mod Listing
 pub mod Placing

@@ -1,5 +1,5 @@
 -- What the calls of a medium come to, by where the sector lies. Assumes nothing.
-use Rattle.std.proofs.Common.{◌≡◌, ℕ, ◌+◌, ◌*◌, ◌<◌, ◌≤◌, cond, eqb, List, length, Some, None, Ok, Err, Option, sym, refl, subst, ⊎_elim, inl, inr, arith}
+use Rattle.std.proofs.Common.{◌≡◌, ℕ, ◌+◌, ◌*◌, ◌<◌, ◌≤◌, true, false, cond, eqb, List, length, is_some, Some, None, Ok, Err, Option, sym, refl, subst, ⊎_elim, inl, inr, arith}
 use borrow.Rule.Slice.PartMut.{put_mid}
 use Rattle.std.proofs.lemmas.Bool.{cases_order}
 use Rattle.stores.specs.declared.fault.Fault.{Fault}
@@ -13,13 +13,13 @@ pub found : (k : ℕ) (o : Option ℕ) (p : ℕ) → Ok p ≡ placed k o → o �
 found k None p e = cc
 found k (Some q) p e = cc
 
-pub is_ready : (k : ℕ) (o : Option ℕ) (p : ℕ) → Ok p ≡ placed k o → Ready ≡ state_of (lost k o)
-is_ready k None p e = cc
-is_ready k (Some q) p e = refl
+pub is_ready : (k : ℕ) (o p : Option ℕ) → p ≡ o → true ≡ is_some p → Ready ≡ state_of (lost k o)
+is_ready k None p same e = cc
+is_ready k (Some q) p same e = refl
 
-pub is_failed : (k : ℕ) (o : Option ℕ) (f : Fault) → Err f ≡ placed k o → Failed ≡ state_of (lost k o)
-is_failed k None f e = refl
-is_failed k (Some q) f e = cc
+pub is_failed : (k : ℕ) (o p : Option ℕ) → p ≡ o → false ≡ is_some p → Failed ≡ state_of (lost k o)
+is_failed k None p same e = refl
+is_failed k (Some q) p same e = cc
 
 pub fails : (k : ℕ) (o : Option ℕ) (f : Fault) → Err f ≡ placed k o → failure (lost k o) ≡ Some f
 fails k None f e = cc

@@ -5,5 +5,5 @@ ghost use Rattle.media.specs.Media.{within_limits as limits_of};
 pub(crate) fn within_limits(count: u64, length: usize) -> bool
     ensures { result ≡ limits_of count length }
 {
-    count <= 65536 && length >= 64 && length <= 4096 && length % 16 == 0
+    count <= 65536 && (64..=4096).contains(&length) && length % 16 == 0
 }

@@ -12,7 +12,7 @@ pub(crate) fn find(bad: &[u64], n: u64) -> Option<usize>
 pub(crate) fn listed(mut bad: &[u64], count: u64) -> bool
     ensures { result ≡ ListedIn count bad.entry.now }
 {
-    while let Some((sector, rest)) = bad.split_first() {
+    while let [sector, rest @ ..] = bad {
         if *sector >= count || find(rest, *sector).is_some() {
             return false;
         }

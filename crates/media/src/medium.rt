@@ -73,9 +73,10 @@ impl<'a, L: Layout> SectorStore for Medium<'a, L> {
         if n >= self.layout.count() {
             return SectorState::Missing;
         }
-        match self.place(n) {
-            Ok(_) => SectorState::Ready,
-            Err(_) => SectorState::Failed,
+        if self.layout.place(n).is_some() {
+            SectorState::Ready
+        } else {
+            SectorState::Failed
         }
     }
 
