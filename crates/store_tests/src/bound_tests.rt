@@ -19,10 +19,9 @@ const LAYERS: [(u16, u16, u16, u16); 5] = [
 
 // The number, the sector and the layer of a fault.
 fn fault(answer: Result<(), Fault>) -> Option<(u8, u64, u16)> {
-    match answer {
-        Ok(()) => None,
-        Err(fault) => Some((fault.number(), fault.sector, fault.layer)),
-    }
+    answer
+        .err()
+        .map(|fault| (fault.number(), fault.sector, fault.layer))
 }
 
 // A store with no sectors has this layer number, and its refusals name it.

@@ -1,6 +1,6 @@
 #![tactic(auto)]
 
-// Tests of the crates `stores` and `stacks`.
+// Tests of the crates `stores`, `media`, `layers` and `stacks`.
 #[cfg(test)]
 mod bound_tests;
 #[cfg(test)]

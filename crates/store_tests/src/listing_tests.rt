@@ -76,12 +76,9 @@ fn last_sector(rt: &impl Abort, bytes: &mut [u8]) {
 
 // Whether all bytes but those of the last sector are zero, and those are not.
 fn only_last(bytes: &[u8]) -> bool {
-    match bytes.split_last_chunk::<64>() {
-        None => false,
-        Some((front, last)) => {
-            front.len() == 4194240 && front.iter().all(|b| *b == 0) && *last != [0; 64]
-        }
-    }
+    bytes.split_last_chunk::<64>().is_some_and(|(front, last)| {
+        front.len() == 4194240 && front.iter().all(|b| *b == 0) && *last != [0; 64]
+    })
 }
 
 #[test]
