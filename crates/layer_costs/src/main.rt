@@ -130,7 +130,7 @@ impl Stack {
     }
 }
 
-// The first eight bytes as a number.
+// The first eight bytes as a number. By a fold, as fewer bytes are a number too.
 fn first(bytes: &[u8]) -> u64 {
     bytes
         .iter()
@@ -155,6 +155,7 @@ fn main(rt: HostRuntime) -> anyhow::Result<()> {
         return Err(anyhow!("a sector has up to 4,096 bytes"));
     }
     let length = length as usize;
+    // Not by `try_from`: every other number is the second cipher, or the second hash.
     let stack = Stack {
         cipher: if cipher == 1 {
             Cipher::Aes

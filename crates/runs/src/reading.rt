@@ -124,6 +124,7 @@ fn write(heap: Global, sector: &str, bytes: &str) -> anyhow::Result<(u64, Vec<u8
     Ok((number(sector)?, hex(heap, bytes)?))
 }
 
+// A state or a refusal is found by its number here alone, and one that has another number is wrong and no error.
 const STATES: [SectorState; 3] = [
     SectorState::Ready,
     SectorState::Missing,

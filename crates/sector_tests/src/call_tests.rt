@@ -1,4 +1,4 @@
-// Which calls are refused, and what they leave.
+// Which calls are refused, by number, as the numbers are what callers in C get, and what the calls leave.
 use crate::constant::Always;
 use hashing::BrwHash;
 use sector::cipher::SectorCipher;

@@ -1,4 +1,5 @@
-// Media and windows with figures that keep every rule, and with each rule broken by as little as can be.
+// Media and windows with figures that keep every rule, and with each rule broken by as little as can be. Refusals and states are
+// compared by number, so that the numbers are tested too.
 use ciphers::speck::Speck128;
 use hashing::HornerHash;
 use layers::cipher::CipherLayer;
