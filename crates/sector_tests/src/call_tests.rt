@@ -1,5 +1,9 @@
 // Which calls are refused, by number, as the numbers are what callers in C get, and what the calls leave.
 use crate::constant::Always;
+use ciphers::aes::Aes128;
+use ciphers::choice::AnyCipher;
+use ciphers::function::BlockFunction;
+use ciphers::speck::Speck128;
 use hashing::BrwHash;
 use sector::cipher::SectorCipher;
 use sector::numbers::answer_number;
@@ -77,4 +81,14 @@ fn calls(rt: HostRuntime) {
     let mut output = [0; 4112];
     let mut working = [0; 4096];
     all_cases(&rt, &text, &mut output, &mut working);
+}
+
+// That the constant of a reference is that of what it points to is in no contract.
+#[test]
+fn key_lengths(rt: HostRuntime) {
+    assert_eq!(rt; Aes128::KEY_LENGTH, 16);
+    assert_eq!(rt; <&Aes128 as BlockFunction>::KEY_LENGTH, 16);
+    assert_eq!(rt; <&Speck128 as BlockFunction>::KEY_LENGTH, 16);
+    assert_eq!(rt; <&AnyCipher as BlockFunction>::KEY_LENGTH, 16);
+    assert_eq!(rt; <&Always as BlockFunction>::KEY_LENGTH, 0);
 }
