@@ -11,7 +11,7 @@ use Rattle.answers.specs.declared.kinds.Kind.{Kind}
 use Rattle.answers.specs.declared.kinds.Kind.TheVariants.{Aes, Speck, Product, Horner, Brw, Sector}
 
 -- the kind that is found has the word
-found_word : (ks : List Kind) (w : List ℕ) (k : Kind) → find (λ j. bytes_eq w (kind_word j)) ks ≡ Some k → w ≡ kind_word k
+pub found_word : (ks : List Kind) (w : List ℕ) (k : Kind) → find (λ j. bytes_eq w (kind_word j)) ks ≡ Some k → w ≡ kind_word k
 found_word [] w k e = cc
 found_word (j ∷ ks) w k e =
     ⊎_elim

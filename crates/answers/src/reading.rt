@@ -54,11 +54,15 @@ fn read_enciphered<'a>(cipher: Cipher, words: Three<'a>) -> Option<Answer<'a>>
 fn read_value<'a>(polynomial: Polynomial, words: Three<'a>) -> Option<Answer<'a>>
     ensures { option_map known_of result ≡ with_all (of_polynomial polynomial) (block_word words.entry.first.now) (list_word words.entry.second.now) (block_word words.entry.third.now) }
 {
+    // The list last: it may be long, and is not read where one of the blocks is none.
+    let key = read_block(words.first)?;
+    let result = read_block(words.third)?;
+    let list = read_list(words.second)?;
     Some(Answer::Polynomial {
         polynomial,
-        key: read_block(words.first)?,
-        list: read_list(words.second)?,
-        result: read_block(words.third)?,
+        key,
+        list,
+        result,
     })
 }
 

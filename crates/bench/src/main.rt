@@ -34,8 +34,8 @@ fn fill(input: &mut impl Read, buffer: &mut [u8]) -> io::Result<usize>
     Ok(filled)
 }
 
-// The input, up to as much as there is room for.
-fn read_input(heap: Global, input: &mut impl Read) -> io::Result<Vec<u8>>
+// The input, up to as much as there is room for. An error of memory stays one: as one of input it would be printed otherwise.
+fn read_input(heap: Global, input: &mut impl Read) -> anyhow::Result<Vec<u8>>
     ensures { IfOk result (λ v. vec_len v ≤ 61441) }
 {
     let mut bytes = room(heap)?;

@@ -51,6 +51,8 @@ pub struct BrwHash;
 impl BlockHash for BrwHash {
     ghost hash = { λ _. brw_hash };
 
+    // In a frame of its own: the powers are room that the caller would have, too, where it copies and calls.
+    #[inline(never)]
     fn call(&self, key: Block, list: Blocks<'_>) -> Block {
         let mut powers = [Block::zero(); 64];
         brw(key, &mut powers, &list).unwrap()

@@ -79,9 +79,14 @@ impl<S: SectorStore, F: BlockFunction, H: BlockHash> SectorStore for CipherLayer
         self.dimensions().admit(n, buffer.len())?;
         let mut scratch = [0; 4096];
         let part = &mut scratch[..buffer.len()];
-        self.below.read(n, part)?;
-        self.transform(Direction::Decipher, n, part, buffer);
-        Ok(())
+        // A match and no `?`: an edit can then turn the fault alone.
+        match self.below.read(n, part) {
+            Ok(()) => {
+                self.transform(Direction::Decipher, n, part, buffer);
+                Ok(())
+            }
+            Err(fault) => Err(fault),
+        }
     }
 
     fn write(&mut self, n: u64, buffer: &[u8]) -> Result<(), Fault> {

@@ -60,7 +60,7 @@ refusal_small Figures = lit< tt
 refusal_small SheetBroken = lit< tt
 refusal_small OutOfTurn = lit< tt
 
-answer_small : (a : Result (Unit {0}) Refusal) → answer_number a < 9
+pub answer_small : (a : Result (Unit {0}) Refusal) → answer_number a < 9
 answer_small (Ok u) = lit< tt
 answer_small (Err r) = refusal_small r
 

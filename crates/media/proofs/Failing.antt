@@ -13,7 +13,7 @@ never_in xs x e j h q = ⊎_elim
     (λ g. false≢true (sym (fails_before_first (λ z. eqb z x) xs j 0 (omega arith)) ∙ eq-eqb (get_or xs j 0) x q))
     (cases_lt (position_or_len (λ z. eqb z x) xs) (length xs))
 
-position_at : (bad : List ℕ) (k i : ℕ) → i < length bad → get_or bad i 0 ≡ k → ((j : ℕ) → j < i → get_or bad j 0 ≡ k → ⊥) → position bad k ≡ Some i
+pub position_at : (bad : List ℕ) (k i : ℕ) → i < length bad → get_or bad i 0 ≡ k → ((j : ℕ) → j < i → get_or bad j 0 ≡ k → ⊥) → position bad k ≡ Some i
 position_at bad k i h e before =
     let is : position_or_len (λ z. eqb z k) bad ≡ i = position_or_len_is (λ z. eqb z k) bad i 0 (omega arith) (λ j l. ne_eqb (get_or bad j 0) k (before j l)) (λ _. eq-eqb (get_or bad i 0) k e) in
     cond-true (ltb (position_or_len (λ z. eqb z k) bad) (length bad)) _ _ (lt-ltb _ _ (omega arith)) ∙ ap (λ z. Some z) is

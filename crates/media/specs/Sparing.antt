@@ -40,7 +40,7 @@ module _ (n spares : ℕ) (bad : List ℕ) where
   inside_by k p h (spare i b l e) = omega arith
 
   -- two sectors lie in two places
-  apart : (k j : ℕ) → k < n → j < n → (k ≡ j → ⊥) → home n spares bad k ≡ home n spares bad j → ⊥
+  pub apart : (k j : ℕ) → k < n → j < n → (k ≡ j → ⊥) → home n spares bad k ≡ home n spares bad j → ⊥
   apart k j hk hj ne = apart_by k j _ _ hk hj ne (known k) (known j)
 
   pub place_within : (k p : ℕ) → k < n → lies (n + spares) k (spare_place n (position bad k)) ≡ Some p → p < n + spares

@@ -1,7 +1,7 @@
 -- What the laws give of sums of products, powers and Horner. Assumes nothing.
-use Rattle.std.proofs.Common.{◌≡◌, ℕ, zero, suc, ◌+◌, ◌-◌, ◌^◌, ◌<◌, ◌≤◌, List, [], ◌∷◌, ◌++◌, length, get_or, take, drop, sym, ap, ◌∙◌, ap₂, suc-add, pow-suc, zero-add, add-one, arith}
-use Rattle.std.proofs.lemmas.List.{take_more, length_push, length-drop, get_or-drop}
-use Rattle.std.specs.List.{fold, zip}
+use Rattle.std.proofs.Common.{◌≡◌, ℕ, zero, suc, ◌+◌, ◌-◌, ◌^◌, ◌<◌, ◌≤◌, min, ◌⊎◌, List, [], ◌∷◌, ◌++◌, length, get_or, take, drop, sym, refl, ap, ◌∙◌, ap₂, inl, inr, suc-add, pow-suc, zero-add, add-one, arith}
+use Rattle.std.proofs.lemmas.List.{take_more, drop_more, length_push, length-drop, drop_all, get_or-drop}
+use Rattle.std.proofs.lemmas.Bool.{cases_lt}
 use Rattle.elements.specs.Operations.{Operations, Laws}
 use Rattle.polynomials.specs.Sums.{dot, power, horner, squared}
 
@@ -26,14 +26,23 @@ module _ {E : Type 0} {o : Operations E} (laws : Laws o) where
 
   -- ---- sums of products
 
-  -- added up from the first pair on, after s
-  added_after : (s : E) (xs ys : List E) → fold (λ t p. t ⊕ (p.0 ⊗ p.1)) s (zip xs ys) ≡ s ⊕ dot o xs ys
-  added_after s [] ys = sym (sum_right s)
-  added_after s (x ∷ xs) [] = sym (sum_right s)
-  added_after s (x ∷ xs) (y ∷ ys) = added_after (s ⊕ (x ⊗ y)) xs ys ∙ laws.sum_assoc s (x ⊗ y) (dot o xs ys)
+  -- one more pair
+  pub dot_next : (xs ys : List E) (i : ℕ) (s x y : E) → i < length xs → i < length ys → x ≡ get_or xs i x → y ≡ get_or ys i y
+      → (s ⊕ (x ⊗ y)) ⊕ dot o (drop (i + 1) xs) (drop (i + 1) ys) ≡ s ⊕ dot o (drop i xs) (drop i ys)
+  dot_next xs ys i s x y hx hy ex ey =
+      laws.sum_assoc s (x ⊗ y) (dot o (drop (i + 1) xs) (drop (i + 1) ys))
+      ∙ ap (o.sum s) (sym (ap₂ (dot o) (drop_more xs i x hx ∙ ap (λ (e : E). e ∷ drop (i + 1) xs) (sym ex)) (drop_more ys i y hy ∙ ap (λ (e : E). e ∷ drop (i + 1) ys) (sym ey))))
 
-  pub added_up_is : (xs ys : List E) → fold (λ t p. t ⊕ (p.0 ⊗ p.1)) o.zero (zip xs ys) ≡ dot o xs ys
-  added_up_is xs ys = added_after o.zero xs ys ∙ laws.sum_zero (dot o xs ys)
+  dot_none : (xs : List E) → dot o xs [] ≡ o.zero
+  dot_none [] = refl
+  dot_none (x ∷ xs) = refl
+
+  pub dot_end : (xs ys : List E) (i : ℕ) (s : E) → min (length xs) (length ys) ≤ i → s ⊕ dot o (drop i xs) (drop i ys) ≡ s
+  dot_end xs ys i s h = go (cases_lt i (length xs))
+    where
+      go : (i < length xs) ⊎ (length xs ≤ i) → s ⊕ dot o (drop i xs) (drop i ys) ≡ s
+      go (inl p) = ap (λ (l : List E). s ⊕ dot o (drop i xs) l) (drop_all i ys (omega arith)) ∙ ap (o.sum s) (dot_none (drop i xs)) ∙ sum_right s
+      go (inr p) = ap (λ (l : List E). s ⊕ dot o l (drop i ys)) (drop_all i xs p) ∙ sum_right s
 
   -- ---- powers
 

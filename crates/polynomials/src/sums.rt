@@ -1,24 +1,19 @@
 ghost use Rattle.std.specs.Prelude.{◌≡◌, ◌-◌, ◌^◌, ◌<◌, ◌≤◌, ◌∷◌, length, take, drop, if◌then◌else◌, Some, None};
-ghost use Rattle.std.specs.List.{fold, zip};
 ghost use Rattle.polynomials.specs.Sums.{dot, power, horner as horner_of, squared, Squares, levels as levels_of, room, filled, brw as brw_of, squared_brw};
 
 use crate::lists::{Elements, element};
 use elements::element::{Arithmetic, Element};
 
-// The products of two lists, pair by pair, added up from the first on.
-fn added_up<E: Arithmetic>(a: &[E], b: &[E]) -> E
-    ensures { result ≡ fold (λ t p. E.Arithmetic.operations.sum t (E.Arithmetic.operations.product p.0 p.1)) E.Arithmetic.operations.zero (zip a.now b.now) }
-{
-    a.iter()
-        .zip(b)
-        .fold(E::zero(), |total, (x, y)| total.add(x.mul(*y)))
-}
-
-// The sum of the products of two lists, pair by pair, as far as the shorter goes.
+// The sum of the products of two lists, pair by pair, as far as the shorter goes. By index: of pairs taken from a chain, an
+// edit that drops the last cannot be told from one that drops none.
 pub fn sum_of_products<E: Element>(a: &[E], b: &[E]) -> E
     ensures { result ≡ dot E.Arithmetic.operations a.now b.now }
 {
-    added_up(a, b)
+    let mut total = E::zero();
+    for i in 0..a.len().min(b.len()) {
+        total = total.add(a[i].mul(b[i]));
+    }
+    total
 }
 
 // One step of Horner: the next coefficient.

@@ -24,3 +24,21 @@ pub(crate) enum Layer {
         count: u64,
     },
 }
+
+// The answer that a call must have. Its bytes alone are held, and those of an accepted read alone: with each call a second
+// time, as it must be afterwards, a run of writes would take twice the memory.
+#[derive(Drop)]
+pub(crate) enum Wanted {
+    // a number in answer to a question
+    Number(u64),
+    State(u64),
+    // an accepted write
+    Done,
+    // an accepted read
+    Bytes(Vec<u8>),
+    Refused {
+        number: u64,
+        sector: u64,
+        layer: u64,
+    },
+}

@@ -1,13 +1,10 @@
 // Reads a line of a run.
-use crate::plan::{Layer, Medium};
+use crate::plan::{Layer, Medium, Wanted};
 use anyhow::anyhow;
 use ciphers::choice::Cipher;
 use hashing::choice::AnyHash;
-use sector::refusal::Refusal;
-use stacks::call::{Answer, Call, Entry};
-use std::alloc::{AllocError, Global};
-use stores::fault::Fault;
-use stores::state::SectorState;
+use stacks::call::Call;
+use std::alloc::Global;
 
 // What a line says.
 #[derive(Drop)]
@@ -17,8 +14,8 @@ pub(crate) enum Line {
     Layer(Layer),
     // the figures of the stack
     Stack { count: u64, length: u64, layer: u64 },
-    // a call to put, and the call as it must be afterwards, with its answer
-    Call(Call, Entry),
+    // a call to put, and the answer that it must have
+    Call(Call, Wanted),
     End(Vec<u8>),
 }
 
@@ -109,108 +106,48 @@ fn encipher(heap: Global, cipher: &str, hash: &str, key: &str) -> anyhow::Result
     Ok(Line::Layer(Layer::Encipher { cipher, hash, key }))
 }
 
-// The sector that a read names, and a buffer of this length for it.
-fn read(heap: Global, sector: &str, length: &str) -> anyhow::Result<(u64, Vec<u8>)> {
+// The read of a sector into a buffer of this length.
+fn read(heap: Global, sector: &str, length: &str) -> anyhow::Result<Call> {
     let length = length.parse::<usize>()?;
-    Ok((number(sector)?, blank(heap, length)?))
+    Ok(Call::Read(number(sector)?, vec![in heap; FILL; length]?))
 }
 
-// A buffer of this length as it is before a read, and after a refused one.
-fn blank(heap: Global, length: usize) -> Result<Vec<u8>, AllocError> {
-    vec![in heap; FILL; length]
+fn write(heap: Global, sector: &str, bytes: &str) -> anyhow::Result<Call> {
+    Ok(Call::Write(number(sector)?, hex(heap, bytes)?))
 }
 
-fn write(heap: Global, sector: &str, bytes: &str) -> anyhow::Result<(u64, Vec<u8>)> {
-    Ok((number(sector)?, hex(heap, bytes)?))
-}
-
-// A state or a refusal is found by its number here alone, and one that has another number is wrong and no error.
-const STATES: [SectorState; 3] = [
-    SectorState::Ready,
-    SectorState::Missing,
-    SectorState::Failed,
-];
-
-const REFUSALS: [Refusal; 3] = [
-    Refusal::BufferLength,
-    Refusal::SectorNumber,
-    Refusal::SectorFailed,
-];
-
-// The state with this number. Where there is none, no call can be answered so.
-fn state(number: u64) -> Option<Answer> {
-    STATES
-        .iter()
-        .find(|state| u64::from(state.number()) == number)
-        .map(|state| Answer::State(*state))
-}
-
-// The refusal with this number, at a sector and a layer. Where there is none, no call can be answered so.
-fn refused(refusal: &str, sector: &str, layer: &str) -> anyhow::Result<Option<Answer>> {
-    let (refusal, sector, layer) = (number(refusal)?, number(sector)?, number(layer)?);
-    let refusal = REFUSALS.iter().find(|r| u64::from(r.number()) == refusal);
-    match (refusal, u16::try_from(layer)) {
-        (Some(refusal), Ok(layer)) => Ok(Some(Answer::Transfer(Err(Fault {
-            refusal: *refusal,
-            sector,
-            layer,
-        })))),
-        _ => Ok(None),
-    }
-}
-
-// A call to put, and what it must be afterwards.
-fn asked(call: Call, after: Call, answer: Option<Answer>) -> Line {
-    let wanted = Entry {
-        call: after,
-        answer,
-    };
-    Line::Call(call, wanted)
+fn refused(refusal: &str, sector: &str, layer: &str) -> anyhow::Result<Wanted> {
+    Ok(Wanted::Refused {
+        number: number(refusal)?,
+        sector: number(sector)?,
+        layer: number(layer)?,
+    })
 }
 
 // A call that must be answered.
 fn read_call(heap: Global, words: &[&str]) -> anyhow::Result<Line> {
-    let done = Some(Answer::Transfer(Ok(())));
-    match words {
-        ["state", n, "=", answer] => {
-            let n = number(n)?;
-            let answer = state(number(answer)?);
-            Ok(asked(Call::State(n), Call::State(n), answer))
-        }
+    let (call, wanted) = match words {
+        ["state", n, "=", state] => (Call::State(number(n)?), Wanted::State(number(state)?)),
         ["read", n, length, "=", "0", bytes] => {
-            let (n, buffer) = read(heap, n, length)?;
-            let filled = Call::Read(n, hex(heap, bytes)?);
-            Ok(asked(Call::Read(n, buffer), filled, done))
+            (read(heap, n, length)?, Wanted::Bytes(hex(heap, bytes)?))
         }
-        ["write", n, bytes, "=", "0"] => {
-            let (n, buffer) = write(heap, n, bytes)?;
-            let kept = Call::Write(n, Vec::from_slice(heap, &buffer)?);
-            Ok(asked(Call::Write(n, buffer), kept, done))
-        }
-        _ => read_refused(heap, words),
-    }
+        ["write", n, bytes, "=", "0"] => (write(heap, n, bytes)?, Wanted::Done),
+        _ => return read_refused(heap, words),
+    };
+    Ok(Line::Call(call, wanted))
 }
 
-// A read or a write that must be refused. Its buffer must be as it was.
+// A read or a write that must be refused.
 fn read_refused(heap: Global, words: &[&str]) -> anyhow::Result<Line> {
     let [call @ .., why, "sector", sector, "layer", layer] = words else {
         return Err(anyhow!("no such line"));
     };
-    match call {
-        ["read", n, length, "="] => {
-            let (n, buffer) = read(heap, n, length)?;
-            let kept = Call::Read(n, blank(heap, buffer.len())?);
-            let answer = refused(why, sector, layer)?;
-            Ok(asked(Call::Read(n, buffer), kept, answer))
-        }
-        ["write", n, bytes, "="] => {
-            let (n, buffer) = write(heap, n, bytes)?;
-            let kept = Call::Write(n, Vec::from_slice(heap, &buffer)?);
-            let answer = refused(why, sector, layer)?;
-            Ok(asked(Call::Write(n, buffer), kept, answer))
-        }
-        _ => Err(anyhow!("no such line")),
-    }
+    let call = match call {
+        ["read", n, length, "="] => read(heap, n, length)?,
+        ["write", n, bytes, "="] => write(heap, n, bytes)?,
+        _ => return Err(anyhow!("no such line")),
+    };
+    Ok(Line::Call(call, refused(why, sector, layer)?))
 }
 
 // What the words of a line say.

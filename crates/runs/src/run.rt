@@ -1,6 +1,6 @@
 // A run: what its lines say, and what comes of it.
-use crate::plan::{Layer, Medium};
-use crate::reading::Line;
+use crate::plan::{Layer, Medium, Wanted};
+use crate::reading::{FILL, Line};
 use crate::stack::{TooDeep, put};
 use stacks::call::{Answer, Call, Entry};
 use std::alloc::Global;
@@ -33,14 +33,6 @@ impl Stage {
 
 // How many questions a stack's figures ask, before the calls.
 const FIGURES: usize = 3;
-
-// A question for a figure of the stack, as it must be answered.
-fn figure(call: Call, value: u64) -> Entry {
-    Entry {
-        call,
-        answer: Some(Answer::Number(value)),
-    }
-}
 
 // Why a run does not agree.
 #[derive(Clone, Copy)]
@@ -79,7 +71,7 @@ impl Tally {
     }
 }
 
-// A stack from the lowest store up, the calls, and the same as they must be afterwards, each with its line's number. The calls
+// A stack from the lowest store up, the calls, and the answers that they must have, each with its line's number. The calls
 // are a list of their own because they are put as one slice.
 #[derive(Drop)]
 pub(crate) struct Run {
@@ -87,7 +79,7 @@ pub(crate) struct Run {
     medium: Medium,
     layers: Vec<Layer>,
     entries: Vec<Entry>,
-    wanted: Vec<(u64, Entry)>,
+    wanted: Vec<(u64, Wanted)>,
 }
 
 impl Run {
@@ -107,8 +99,8 @@ impl Run {
         }
     }
 
-    // Adds a call, and what it must be afterwards.
-    fn ask(&mut self, number: u64, call: Call, wanted: Entry) -> anyhow::Result<()> {
+    // Adds a call with the answer that it must have.
+    fn ask(&mut self, number: u64, call: Call, wanted: Wanted) -> anyhow::Result<()> {
         self.entries.push(Entry { call, answer: None })?;
         self.wanted.push((number, wanted))?;
         Ok(())
@@ -130,9 +122,9 @@ impl Run {
                 length,
                 layer,
             } => {
-                self.ask(number, Call::Count, figure(Call::Count, count))?;
-                self.ask(number, Call::Length, figure(Call::Length, length))?;
-                self.ask(number, Call::Layer, figure(Call::Layer, layer))?;
+                self.ask(number, Call::Count, Wanted::Number(count))?;
+                self.ask(number, Call::Length, Wanted::Number(length))?;
+                self.ask(number, Call::Layer, Wanted::Number(layer))?;
             }
             Line::Call(call, wanted) => self.ask(number, call, wanted)?,
             Line::End(bytes) => return Ok(Some(self.finish(number, &bytes))),
@@ -140,11 +132,11 @@ impl Run {
         Ok(None)
     }
 
-    // Puts the calls and compares every one, then the medium's bytes.
+    // Puts the calls and compares every answer, then the medium's bytes.
     fn finish(&mut self, number: u64, end: &[u8]) -> Verdict {
         put(&mut self.medium, &self.layers, &mut self.entries)?;
         for (entry, (line, wanted)) in self.entries.iter().zip(self.wanted.iter()) {
-            if entry != wanted {
+            if !agrees(entry, wanted) {
                 return Err(Failure::Differs(*line));
             }
         }
@@ -152,6 +144,41 @@ impl Run {
             return Err(Failure::Differs(number));
         }
         Ok(self.entries.len().saturating_sub(FIGURES))
+    }
+}
+
+// Whether a refused call kept its buffer. Only a read could change its own.
+fn kept(call: &Call) -> bool {
+    match call {
+        Call::Read(_, buffer) => buffer.iter().all(|byte| *byte == FILL),
+        _ => true,
+    }
+}
+
+// Whether a call was answered as it must be. Numbers are compared: one that is no state's or no refusal's is a wrong answer.
+fn agrees(entry: &Entry, wanted: &Wanted) -> bool {
+    match (entry.answer, wanted) {
+        (Some(Answer::Number(n)), Wanted::Number(m)) => n == *m,
+        (Some(Answer::State(state)), Wanted::State(n)) => u64::from(state.number()) == *n,
+        (Some(Answer::Transfer(Ok(()))), Wanted::Done) => true,
+        (Some(Answer::Transfer(Ok(()))), Wanted::Bytes(bytes)) => match &entry.call {
+            Call::Read(_, buffer) => buffer == bytes,
+            _ => false,
+        },
+        (
+            Some(Answer::Transfer(Err(fault))),
+            Wanted::Refused {
+                number,
+                sector,
+                layer,
+            },
+        ) => {
+            u64::from(fault.number()) == *number
+                && fault.sector == *sector
+                && u64::from(fault.layer) == *layer
+                && kept(&entry.call)
+        }
+        _ => false,
     }
 }
 

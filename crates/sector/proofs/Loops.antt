@@ -14,6 +14,14 @@ use Rattle.sector.specs.Texts.{bytes, joined, front_of, text_of, bytes_of, trans
 use Rattle.sector.specs.Transform.{◌⊕◌, counter_block, counter_mode, hash_key, tail_hash}
 use Rattle.sector.proofs.Bytes.{length_bytes, blocks_of_joined, transformed_is}
 
+chunks_long : (n : ℕ) (t : List ℕ) → length (first_chunks 16 n t) ≡ n
+chunks_long zero t = refl
+chunks_long (suc n) t = ap suc (chunks_long n (drop 16 t))
+
+-- as many pieces as there are, are all of them
+pub all_chunks : (n : ℕ) (t : List ℕ) → take n (first_chunks 16 n t) ≡ first_chunks 16 n t
+all_chunks n t = take_all n (first_chunks 16 n t) (omega (arith, chunks_long n t))
+
 -- one of the pieces of 16 bytes, as the checker reads it
 chunk_at : (n k : ℕ) (t : List ℕ) → k < n → get_or (first_chunks 16 n t) k [] ≡ take 16 (drop (16 * k) t)
 chunk_at zero k t h = absurd (omega arith)
@@ -23,12 +31,12 @@ chunk_at (suc n) (suc k) t h =
     chunk_at n k (drop 16 t) (omega arith) ∙ ap (take 16) (drop-drop (16 * k) 16 t ∙ ap (λ (i : ℕ). drop i t) e)
 
 -- a block written at a place, as the checker has it
-put_is : (out x : List ℕ) (at : ℕ) (b : Block) → x ≡ bytes b → put_mid at (at + 16 - at) out x ≡ take at out ++ (bytes b ++ drop (at + 16) out)
+pub put_is : (out x : List ℕ) (at : ℕ) (b : Block) → x ≡ bytes b → put_mid at (at + 16 - at) out x ≡ take at out ++ (bytes b ++ drop (at + 16) out)
 put_is out x at b e =
     let a : at + 16 - at ≡ 16 = omega arith in
     rw (e, a, drop-drop 16 at out)
 
-front : (out : List ℕ) (at : ℕ) (b : Block) → at + 16 ≤ length out → take (at + 16) (take at out ++ (bytes b ++ drop (at + 16) out)) ≡ take at out ++ bytes b
+pub front : (out : List ℕ) (at : ℕ) (b : Block) → at + 16 ≤ length out → take (at + 16) (take at out ++ (bytes b ++ drop (at + 16) out)) ≡ take at out ++ bytes b
 front out at b h =
     let l : at ≤ length out = omega arith in
     let n : length (take at out ++ bytes b) ≡ at + 16 = length-append (take at out) (bytes b) ∙ omega (arith, length-take-le at out l, length_bytes b) in

@@ -1,5 +1,5 @@
 -- Notes of the lines, the calls to be put, and the answers filled in. Assumes nothing.
-use Rattle.std.specs.Prelude.{◌≡◌, ℕ, suc, cond, List, [], ◌∷◌, length, take, drop, Some, None, Ok, Err, Option, Result, nat_le}
+use Rattle.std.specs.Prelude.{◌≡◌, ℕ, cond, List, [], ◌∷◌, length, take, Some, None, Ok, Err, Option, Result, nat_le}
 use Rattle.std.specs.List.{slice_get}
 use Rattle.sector.specs.declared.refusal.Refusal.{Refusal}
 use Rattle.stacks.specs.declared.call.Call.{Call}
@@ -14,7 +14,7 @@ use Rattle.sheets.specs.Records.{Said, setting, write, read}
 use Rattle.sheet_turns.specs.declared.turns.Run.{Run}
 use Rattle.sheet_turns.specs.declared.turns.Run.TheVariants.{Waiting}
 use Rattle.sheet_plans.specs.declared.plans.Note.{Note}
-use Rattle.sheet_turns.specs.Table.{Does, answered, puts, table, after, calls}
+use Rattle.sheet_turns.specs.Table.{Does, answered, puts, table, after, calls, puts_of}
 
 -- the kind of a record's line
 abbrev pub kind_of : Said → LineKind
@@ -33,25 +33,31 @@ abbrev pub call_asked : Option Call → List Ask
 call_asked None = []
 call_asked (Some c) = ask c ∷ []
 
--- the answer of a record that puts no call
-abbrev pub noted_answer : Does → Option (Result (Unit {0}) Refusal)
-noted_answer (answered a) = Some a
-noted_answer (puts q) = None
+-- the number of the call that is put after k others, if one is put
+abbrev pub call_at : List Ask → ℕ → Option ℕ
+call_at [] k = None
+call_at (q ∷ qs) k = Some k
 
--- the note of a record by what it does
-abbrev pub note_of : Said → Does → Note
-note_of r d = record { kind = kind_of r; sector = sector_of r; answer = noted_answer d }
+-- the answer of a note before the calls are put
+abbrev pub noted_answer : Does → Result (Unit {0}) Refusal
+noted_answer (answered a) = a
+noted_answer (puts q) = Ok tt
 
--- the notes of records
-abbrev pub notes_of : Run → List Said → List Note
-notes_of u [] = []
-notes_of u (r ∷ rs) = note_of r (table u r).1 ∷ notes_of (table u r).0 rs
+-- the note of a record with the number i
+abbrev pub note_of : ℕ → Said → Does → Option ℕ → Note
+note_of i r d k = record { line = record { index = i; kind = kind_of r; sector = sector_of r; answer = noted_answer d; first = None }; call = k }
+
+-- the note of the record r, which has the number i and comes after the records `before`
+abbrev pub note_after : ℕ → List Said → Said → Note
+note_after i before r =
+    let d = (table (after Waiting before) r).1 in note_of i r d (call_at (puts_of d) (length (calls Waiting before)))
 
 -- the records were taken in turn: the state after them, a note for each and the calls put
 pub record Planned (rs : List Said) (u : Run) (notes : List Note) (es : List Entry) : Type 0 where
   pub state : u ≡ after Waiting rs
-  pub noted : notes ≡ notes_of Waiting rs
   pub asked : asks es ≡ calls Waiting rs
+  pub as_many : length notes ≡ length rs
+  pub noted : (i : ℕ) (r : Said) → slice_get rs i ≡ Some r → slice_get notes i ≡ Some (note_after i (take i rs) r)
 
 -- the first eight bytes
 abbrev pub eight : List ℕ → Option (List ℕ)
@@ -82,28 +88,17 @@ shown_of (Some (Transfer (Err f))) q = None
 shown_of (Some (Number n)) q = None
 shown_of (Some (State s)) q = None
 
--- the answer of a note, or else that of the call
-abbrev pub told : Option (Result (Unit {0}) Refusal) → Option Entry → Result (Unit {0}) Refusal
-told (Some a) e = a
-told None None = Ok tt
-told None (Some e) = answer_of e.answer
+-- a line with the answer of the call e, if there is one
+abbrev pub answered_line : Line → Option Entry → Line
+answered_line line None = line
+answered_line line (Some e) =
+    record { index = line.index; kind = line.kind; sector = line.sector; answer = answer_of e.answer; first = shown_of e.answer (ask e.call) }
 
--- what is shown with it
-abbrev pub shown : Option (Result (Unit {0}) Refusal) → Option Entry → Option (List ℕ)
-shown (Some a) e = None
-shown None None = None
-shown None (Some e) = shown_of e.answer (ask e.call)
+-- a line with the answer of call k, or as it is
+abbrev pub line_by : Line → Option ℕ → List Entry → Line
+line_by line None es = line
+line_by line (Some k) es = answered_line line (slice_get es k)
 
--- the line with the number i of a note, where the call e comes next
-abbrev pub line_by : ℕ → Note → Option Entry → Line
-line_by i n e = record { index = i; kind = n.kind; sector = n.sector; answer = told n.answer e; first = shown n.answer e }
-
--- the calls after a note's answer: one fewer where it is a call's
-abbrev pub calls_left : Option (Result (Unit {0}) Refusal) → List Entry → List Entry
-calls_left (Some a) es = es
-calls_left None es = drop 1 es
-
--- the lines of notes from the number i on, where each without an answer takes the next of the calls
-abbrev pub lines_by : ℕ → List Note → List Entry → List Line
-lines_by i [] es = []
-lines_by i (n ∷ ns) es = line_by i n (slice_get es 0) ∷ lines_by (suc i) ns (calls_left n.answer es)
+-- a note's line with the answer of its call
+abbrev pub finished : Note → List Entry → Line
+finished n es = line_by n.line n.call es

@@ -1,6 +1,6 @@
-ghost use Rattle.std.specs.Prelude.{◌≡◌, IfOk};
+ghost use Rattle.std.specs.Prelude.{◌≡◌, map, IfOk};
 ghost use Rattle.stacks.specs.Calls.{ask};
-ghost use Rattle.sheet_plans.specs.Plans.{answer_of, shown_of, lines_by};
+ghost use Rattle.sheet_plans.specs.Plans.{answer_of, shown_of, finished as finished_by};
 
 use crate::plans::Note;
 use lines::line::Line;
@@ -21,24 +21,28 @@ fn outcome(entry: &Entry) -> (Result<(), Refusal>, Option<[u8; 8]>)
     }
 }
 
-// The lines of notes, where each note without an answer takes the next of the calls.
+// A note's line, with the answer of its call.
+fn finished(note: Note, calls: &[Entry]) -> Line
+    ensures { result ≡ finished_by note calls.now }
+{
+    let Some(entry) = note.call.and_then(|k| calls.get(k)) else {
+        return note.line;
+    };
+    let (answer, first) = outcome(entry);
+    Line {
+        answer,
+        first,
+        ..note.line
+    }
+}
+
+// The lines of notes, with the answers of the calls.
 pub fn lines_of(heap: Global, notes: &[Note], calls: &[Entry]) -> Result<Vec<Line>, AllocError>
-    ensures { IfOk result (λ v. v.items ≡ lines_by 0 notes.now calls.now) }
+    ensures { IfOk result (λ v. v.items ≡ map (λ n. finished_by n calls.now) notes.now) }
 {
     let mut lines = Vec::new(heap);
-    let mut answered = calls.iter();
-    for (index, note) in notes.iter().enumerate() {
-        let (answer, first) = match note.answer {
-            Some(answer) => (answer, None),
-            None => answered.next().map_or((Ok(()), None), outcome),
-        };
-        lines.push(Line {
-            index,
-            kind: note.kind,
-            sector: note.sector,
-            answer,
-            first,
-        })?;
+    for note in notes {
+        lines.push(finished(*note, calls))?;
     }
     Ok(lines)
 }

@@ -1,22 +1,20 @@
-ghost use Rattle.std.specs.Prelude.{◌≡◌, ◌++◌, map, IfOk};
+ghost use Rattle.std.specs.Prelude.{◌≡◌, ◌++◌, map, length, IfOk};
 ghost use Rattle.stacks.specs.Calls.{asks};
 ghost use Rattle.sheets.specs.Records.{said};
 ghost use Rattle.sheet_turns.specs.Table.{does, puts_of};
-ghost use Rattle.sheet_plans.specs.Plans.{call_asked, note_of, Planned};
+ghost use Rattle.sheet_plans.specs.Plans.{call_at, call_asked, note_of, Planned};
 
-use lines::line::LineKind;
-use sector::refusal::Refusal;
+use lines::line::{Line, LineKind};
 use sheet_turns::turns::{Effect, Run};
 use sheets::records::Record;
 use stacks::call::{Call, Entry};
 use std::alloc::{AllocError, Global};
 
-// What is known of a record's line before the calls are put: its kind and sector, and the answer unless a call gives it.
+// A line, and the number of the call that answers it, if one does. So each note is finished by itself, in any order.
 #[derive(Clone, Copy, Debug, PartialEq, Eq)]
 pub struct Note {
-    pub kind: LineKind,
-    pub sector: Option<u16>,
-    pub answer: Option<Result<(), Refusal>>,
+    pub line: Line,
+    pub call: Option<usize>,
 }
 
 // The records of a run taken in turn: the state after them, a note for each, and the calls to be put to the store.
@@ -44,19 +42,22 @@ fn call_of(heap: Global, effect: Effect) -> Result<Option<Call>, AllocError>
     }
 }
 
-// Adds the call that an effect puts.
-fn put(heap: Global, effect: Effect, calls: &mut Vec<Entry>) -> Result<(), AllocError>
-    ensures { IfOk result (λ u. asks calls.new.items ≡ asks calls.old.items ++ puts_of (does effect.entry)) }
+// Adds the call that an effect puts, and answers its number.
+fn put(heap: Global, effect: Effect, calls: &mut Vec<Entry>) -> Result<Option<usize>, AllocError>
+    ensures { IfOk result (λ k. (asks calls.new.items ≡ asks calls.old.items ++ puts_of (does effect.entry))
+        × (k ≡ call_at (puts_of (does effect.entry)) (length calls.old.items))) }
 {
-    if let Some(call) = call_of(heap, effect)? {
-        calls.push(Entry { call, answer: None })?;
-    }
-    Ok(())
+    let Some(call) = call_of(heap, effect)? else {
+        return Ok(None);
+    };
+    let number = calls.len();
+    calls.push(Entry { call, answer: None })?;
+    Ok(Some(number))
 }
 
-// The note of a record by what it does.
-fn noted(record: Record, effect: Effect) -> Note
-    ensures { result ≡ note_of (said «record».entry) (does effect.entry) }
+// The note of a record by what it does. Its line is whole: `Ok` stands in it until a call's answer is filled in.
+fn noted(index: usize, record: Record, effect: Effect, call: Option<usize>) -> Note
+    ensures { result ≡ note_of index (said «record».entry) (does effect.entry) call }
 {
     let (kind, sector) = match record {
         Record::Setting(_) => (LineKind::Setting, None),
@@ -64,13 +65,18 @@ fn noted(record: Record, effect: Effect) -> Note
         Record::Read { sector } => (LineKind::Read, Some(sector)),
     };
     let answer = match effect {
-        Effect::Answered(answer) => Some(answer),
-        _ => None,
+        Effect::Answered(answer) => answer,
+        _ => Ok(()),
     };
     Note {
-        kind,
-        sector,
-        answer,
+        line: Line {
+            index,
+            kind,
+            sector,
+            answer,
+            first: None,
+        },
+        call,
     }
 }
 
@@ -83,8 +89,8 @@ pub fn planned(heap: Global, records: &[Record]) -> Result<Plan, AllocError>
     let mut calls = Vec::new(heap);
     for record in records {
         let effect = run.turn(*record);
-        put(heap, effect, &mut calls)?;
-        notes.push(noted(*record, effect))?;
+        let call = put(heap, effect, &mut calls)?;
+        notes.push(noted(notes.len(), *record, effect, call))?;
     }
     Ok(Plan { run, notes, calls })
 }

@@ -1,7 +1,9 @@
 -- Each line is that of its record. Assumes nothing.
-use Rattle.std.proofs.Common.{◌≡◌, ℕ, zero, suc, ◌+◌, ◌<◌, Bool, true, false, List, [], ◌∷◌, ◌++◌, length, get_or, take, drop, replicate, Some, None, Err, Option, Result, sym, refl, ap, ◌∙◌, subst, add-zero, zero-add, arith, take_at, length-append}
+use Rattle.std.proofs.Common.{◌≡◌, ℕ, suc, ◌+◌, ◌<◌, Bool, true, false, List, [], ◌∷◌, ◌++◌, map, length, get_or, take, drop, replicate, Some, None, Err, Option, Result, sym, refl, ap, ◌∙◌, subst, add-zero, arith, take_at}
+use lib.ListN.{length-map}
 use Rattle.std.specs.List.{slice_get}
-use Rattle.std.proofs.lemmas.Option.{slice_get-get_or, slice_get_within}
+use Rattle.std.specs.Option.{option_map}
+use Rattle.std.proofs.lemmas.Option.{slice_get-get_or, slice_get-map, slice_get_within}
 use Rattle.std.proofs.lemmas.List.{take-map, length_push}
 use Rattle.stacks.specs.declared.call.Entry.{Entry}
 use Rattle.stacks.specs.Calls.{Ask, ask, asks, ask_read, ask_write}
@@ -19,42 +21,14 @@ use Rattle.sheet_turns.specs.declared.turns.Run.{Run}
 use Rattle.sheet_turns.specs.declared.turns.Run.TheVariants.{Waiting, Running}
 use Rattle.sheet_plans.specs.declared.plans.Note.{Note}
 use Rattle.sheet_turns.specs.Settings.{admitted}
-use Rattle.sheet_turns.specs.Table.{Does, answered, puts, begun, table, after, calls, puts_of}
+use Rattle.sheet_turns.specs.Table.{puts, begun, table, after, calls, puts_of}
 use Rattle.sheet_turns.proofs.Following.{after_append, calls_append, stays}
-use Rattle.sheet_plans.specs.Plans.{noted_answer, note_of, notes_of, Planned, told, shown, line_by, calls_left, lines_by}
-use Rattle.sheet_runs.specs.Lines.{fresh, setting_answer, Outcome, broken_line, LinesAre}
+use Rattle.sheet_plans.specs.Plans.{call_at, note_of, note_after, Planned, answered_line, line_by, finished}
+use Rattle.sheet_runs.specs.Lines.{fresh, setting_answer, Outcome, LineIs, broken_line, LinesAre}
 use Rattle.sheet_runs.specs.Puts.{Sane, AnsweredBy, PutBy}
 use Rattle.sheet_runs.proofs.Places.{split_nth, nth_mid, nth_mapped}
 use Rattle.sheet_runs.proofs.Sanity.{sane_after}
 use Rattle.sheet_runs.proofs.Storing.{write_outcome, read_outcome}
-
--- ---- the calls taken in order
-
-left_nth : (d : Does) (es : List Entry) (m : ℕ) → slice_get (calls_left (noted_answer d) es) m ≡ slice_get es (length (puts_of d) + m)
-left_nth (answered a) es m = ap (slice_get es) (sym (zero-add m))
-left_nth (puts q) [] m = refl
-left_nth (puts q) (x ∷ es) m = let e : length (q ∷ []) + m ≡ suc m = omega arith in ap (slice_get (x ∷ es)) (sym e)
-
--- the line of a record takes the call that is put after those of the records before
-line_nth : (u : Run) (rs : List Said) (j : ℕ) (es : List Entry) (i : ℕ) (r : Said) → slice_get rs i ≡ Some r
-    → slice_get (lines_by j (notes_of u rs) es) i ≡ Some (line_by (j + i) (note_of r (table (after u (take i rs)) r).1) (slice_get es (length (calls u (take i rs)))))
-line_nth u [] j es i r e = cc
-line_nth u (x ∷ rs) j es zero r e =
-    let same : x ≡ r = cc in ap (λ y. Some (line_by j (note_of y (table u y).1) (slice_get es 0))) same ∙ ap (λ z. Some (line_by z (note_of r (table u r).1) (slice_get es 0))) (sym (add-zero j))
-line_nth u (x ∷ rs) j es (suc i) r e =
-    let d = (table u x).1 in
-    let v = (table u x).0 in
-    let n = note_of r (table (after v (take i rs)) r).1 in
-    let next : suc j + i ≡ j + suc i = omega arith in
-    line_nth v rs (suc j) (calls_left (noted_answer d) es) i r e
-    ∙ ap (λ o. Some (line_by (suc j + i) n o)) (left_nth d es (length (calls v (take i rs))) ∙ ap (slice_get es) (sym (length-append (puts_of d) (calls v (take i rs)))))
-    ∙ ap (λ z. Some (line_by z n (slice_get es (length (puts_of d ++ calls v (take i rs)))))) next
-
-line_count : (u : Run) (rs : List Said) (j : ℕ) (es : List Entry) → length (lines_by j (notes_of u rs) es) ≡ length rs
-line_count u [] j es = refl
-line_count u (r ∷ rs) j es = ap suc (line_count (table u r).0 rs (suc j) (calls_left (noted_answer (table u r).1) es))
-
--- ---- what they answer
 
 module _ (rs : List Said) (u : Run) (notes : List Note) (es es' : List Entry) (p : Planned rs u notes es) (put : PutBy u es es') (i : ℕ) (r : Said) (e : slice_get rs i ≡ Some r) where
   -- a record under a setting: the run ends under it
@@ -90,48 +64,66 @@ module _ (rs : List Said) (u : Run) (notes : List Note) (es es' : List Entry) (p
       )
 
 -- what a setting comes to while the run waits
-begins : (o : Option Setting) (e : Option Entry) → (told (noted_answer (begun o).1) e ≡ setting_answer o) × (shown (noted_answer (begun o).1) e ≡ None)
-begins None e = (refl, refl)
-begins (Some g) e = (refl, refl)
+begins : (o : Option Setting) (i k : ℕ) (r : Said) (es : List Entry)
+    → let line = finished (note_of i r (begun o).1 (call_at (puts_of (begun o).1) k)) es in (line.answer ≡ setting_answer o) × (line.first ≡ None)
+begins None i k r es = (refl, refl)
+begins (Some g) i k r es = (refl, refl)
 
 module _ (rs : List Said) (u : Run) (notes : List Note) (es es' : List Entry) (p : Planned rs u notes es) (put : PutBy u es es') (i : ℕ) where
-  abbrev next_call : Option Entry
-  next_call = slice_get es' (length (calls Waiting (take i rs)))
-
   tells : (v : Run) (r : Said) → slice_get rs i ≡ Some r → after Waiting (take i rs) ≡ v → Sane v
-      → let a = noted_answer (table v r).1 in Outcome v (calls Waiting (take i rs)) r (told a next_call) (shown a next_call)
-  tells Waiting (setting c h l n k) e a s = begins (admitted c h l n k) next_call
+      → let line = finished (note_of i r (table v r).1 (call_at (puts_of (table v r).1) (length (calls Waiting (take i rs))))) es' in
+      Outcome v (calls Waiting (take i rs)) r line.answer line.first
+  tells Waiting (setting c h l n k) e a s = begins (admitted c h l n k) i (length (calls Waiting (take i rs))) (setting c h l n k) es'
   tells Waiting (write n at t) e a s = (refl, refl)
   tells Waiting (read n) e a s = (refl, refl)
   tells (Running g) (setting c h l n k) e a s = (refl, refl)
   tells (Running g) (write n at t) e a s =
       let qs = calls Waiting (take i rs) in
+      let line = (note_of i (write n at t) (puts (ask_write n t)) (Some (length qs))).line in
       let x = answer_at rs u notes es es' p put i (write n at t) e g (ask_write n t) a refl in
-      subst (λ (o : Option Entry). Outcome (Running g) qs (write n at t) (told None o) (shown None o)) (sym x.1) (write_outcome g qs n t (ask x.0.call) x.0.answer x.2)
+      subst (λ (o : Option Entry). Outcome (Running g) qs (write n at t) (answered_line line o).answer (answered_line line o).first) (sym x.1)
+      (write_outcome g qs n t (ask x.0.call) x.0.answer x.2)
   tells (Running g) (read n) e a s =
       let qs = calls Waiting (take i rs) in
-      let x = answer_at rs u notes es es' p put i (read n) e g (ask_read n (replicate g.length 0)) a refl in
-      subst (λ (o : Option Entry). Outcome (Running g) qs (read n) (told None o) (shown None o)) (sym x.1) (read_outcome g s qs n (ask x.0.call) x.0.answer x.2)
+      let q = ask_read n (replicate g.length 0) in
+      let line = (note_of i (read n) (puts q) (Some (length qs))).line in
+      let x = answer_at rs u notes es es' p put i (read n) e g q a refl in
+      subst (λ (o : Option Entry). Outcome (Running g) qs (read n) (answered_line line o).answer (answered_line line o).first) (sym x.1)
+      (read_outcome g s qs n (ask x.0.call) x.0.answer x.2)
+
+  kept_parts : (note : Note) → ((finished note es').index ≡ note.line.index) × ((finished note es').kind ≡ note.line.kind) × ((finished note es').sector ≡ note.line.sector)
+  kept_parts note = by note.line note.call
+    where
+      of : (line : Line) (o : Option Entry) → ((answered_line line o).index ≡ line.index) × ((answered_line line o).kind ≡ line.kind) × ((answered_line line o).sector ≡ line.sector)
+      of line None = (refl, refl, refl)
+      of line (Some x) = (refl, refl, refl)
+
+      by : (line : Line) (k : Option ℕ) → ((line_by line k es').index ≡ line.index) × ((line_by line k es').kind ≡ line.kind) × ((line_by line k es').sector ≡ line.sector)
+      by line None = (refl, refl, refl)
+      by line (Some k) = of line (slice_get es' k)
+
+  line_is : (r : Said) → slice_get rs i ≡ Some r → LineIs i (take i rs) r (finished (note_after i (take i rs) r) es')
+  line_is r e =
+      let k = kept_parts (note_after i (take i rs) r) in
+      record {
+        index = k.0;
+        kind = k.1;
+        sector = k.2;
+        outcome = tells (after Waiting (take i rs)) r e refl (sane_after Waiting (take i rs) tt);
+      }
 
 -- the lines of records
 pub lines_are : (rs : List Said) (u : Run) (notes : List Note) (es es' : List Entry) (lines : List Line) → Planned rs u notes es → PutBy u es es'
-    → lines ≡ lines_by 0 notes es' → LinesAre rs false lines
-lines_are rs u notes es es' lines p put e =
-    let whole : lines ≡ lines_by 0 (notes_of Waiting rs) es' = e ∙ ap (λ z. lines_by 0 z es') p.noted in
-    record {
-      as_many = ap length whole ∙ line_count Waiting rs 0 es' ∙ sym (add-zero (length rs));
-      each = λ i r h. (
-        line_by (0 + i) (note_of r (table (after Waiting (take i rs)) r).1) (next_call rs u notes es es' p put i),
-        ap (λ z. slice_get z i) whole ∙ line_nth Waiting rs 0 es' i r h,
-        record {
-          index = zero-add i;
-          kind = refl;
-          sector = refl;
-          outcome = tells rs u notes es es' p put i (after Waiting (take i rs)) r h refl (sane_after Waiting (take i rs) tt);
-        },
-      );
-      last = λ b. cc;
-    }
+    → lines ≡ map (λ (n : Note). finished n es') notes → LinesAre rs false lines
+lines_are rs u notes es es' lines p put e = record {
+  as_many = ap length e ∙ length-map notes (λ (n : Note). finished n es') ∙ p.as_many ∙ sym (add-zero (length rs));
+  each = λ i r h. (
+    finished (note_after i (take i rs) r) es',
+    ap (λ z. slice_get z i) e ∙ slice_get-map (λ (n : Note). finished n es') notes i ∙ ap (option_map (λ (n : Note). finished n es')) (p.noted i r h),
+    line_is rs u notes es es' p put i r h,
+  );
+  last = λ b. cc;
+}
 
 -- and of a sheet that ends so
 pub end_tells : (b : Bool) → is_err (end_of b) ≡ b

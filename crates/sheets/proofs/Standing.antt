@@ -44,7 +44,7 @@ said_at s at r h =
     ∙ ap (body_said (at + 2)) (take_at (body r) _ (word s at) (sym (word_at s at r _ e)))
     ∙ said_body at r h.formed h.placed
 
-none_stands : (s : List ℕ) (at n : ℕ) → n ≡ word s at → None ≡ body_said (at + 2) (take n (drop (at + 2) s)) → (r : Said) → Stands s at r → ⊥
+pub none_stands : (s : List ℕ) (at n : ℕ) → n ≡ word s at → None ≡ body_said (at + 2) (take n (drop (at + 2) s)) → (r : Said) → Stands s at r → ⊥
 none_stands s at n w e r h = let p : None ≡ Some r = e ∙ ap (λ z. body_said (at + 2) (take z (drop (at + 2) s))) w ∙ said_at s at r h in cc
 
 found_good : (s : List ℕ) (at n : ℕ) (r : Said) → ((i : ℕ) → get_or s i 0 < 256) → n ≡ word s at → n ≤ length s - (at + 2)
@@ -53,7 +53,7 @@ found_good s at n r small w l e =
     subst (Good at (take n (drop (at + 2) s))) (sym e)
     (good_body at (take n (drop (at + 2) s)) (small_part s small n (at + 2)) (omega (arith, length-take n (drop (at + 2) s), small at, small (at + 1))))
 
-found_stands : (s : List ℕ) (at n : ℕ) (r : Said) → ((i : ℕ) → get_or s i 0 < 256) → 2 ≤ length s - at → n ≡ word s at → n ≤ length s - (at + 2)
+pub found_stands : (s : List ℕ) (at n : ℕ) (r : Said) → ((i : ℕ) → get_or s i 0 < 256) → 2 ≤ length s - at → n ≡ word s at → n ≤ length s - (at + 2)
     → Some r ≡ body_said (at + 2) (take n (drop (at + 2) s)) → Stands s at r × (at + 2 + n ≡ at + length (written r))
 found_stands s at n r small two w l e =
     let g = found_good s at n r small w l e in

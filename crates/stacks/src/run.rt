@@ -1,20 +1,29 @@
 ghost use Rattle.std.specs.Prelude.{◌≡◌};
 ghost use Rattle.std.specs.Int.Digits.{AllBelowBase};
 ghost use Rattle.stores.specs.Layers.{store};
+ghost use Rattle.stacks.specs.declared.call.Answer.TheVariants.{Transfer};
 ghost use Rattle.stacks.specs.Calls.{ask, ask_write};
 ghost use Rattle.stacks.specs.Steps.{Step, Octets};
 ghost use Rattle.stacks.specs.Law.{Law};
 
 use crate::call::{Answer, Call, Entry};
 use crate::stack::StackOn;
+use stores::fault::Fault;
 use stores::store::SectorStore;
+
+// What a read or a write was answered.
+fn told(answer: Result<(), Fault>) -> Answer
+    ensures { result ≡ Transfer answer }
+{
+    Answer::Transfer(answer)
+}
 
 // Puts one write. A slice's elements are known to be bytes.
 fn put_write<P: SectorStore>(stack: &mut P, n: u64, buffer: &[u8]) -> Answer
     ensures step { Step (P.view stack.old) (P.view stack.new) (ask_write n buffer.now) (ask_write n buffer.now) result }
     ensures octets { AllBelowBase 256 buffer.now }
 {
-    Answer::Transfer(stack.write(n, buffer))
+    told(stack.write(n, buffer))
 }
 
 // Puts one call.
@@ -27,7 +36,7 @@ fn put<P: SectorStore>(stack: &mut P, call: &mut Call) -> Answer
         Call::Length => Answer::Number(stack.length() as u64),
         Call::Layer => Answer::Number(u64::from(stack.layer())),
         Call::State(n) => Answer::State(stack.state(*n)),
-        Call::Read(n, buffer) => Answer::Transfer(stack.read(*n, buffer.as_mut_slice())),
+        Call::Read(n, buffer) => told(stack.read(*n, buffer.as_mut_slice())),
         Call::Write(n, buffer) => put_write(stack, *n, buffer.as_slice()),
     }
 }

@@ -1,12 +1,14 @@
 -- What a store's calls answer, case by case. Assumes nothing.
 use Rattle.std.proofs.Common.{◌≡◌, ℕ, ◌<◌, ◌≤◌, Bool, true, false, cond, eqb, ltb, List, Some, None, Ok, Err, Option, Result, sym, ap, ◌∙◌, arith}
+use Rattle.std.proofs.lemmas.Bool.{ne_eqb, cond-false}
 use Rattle.std.proofs.lemmas.Bool.Decides.{nat_tests}
 use Rattle.std.specs.Result.{IsErrAnd}
 use Rattle.std.proofs.lemmas.Result.{err_from_is_err_and}
+use Rattle.sector.specs.declared.refusal.Refusal.TheVariants.{BufferLength}
 use Rattle.stores.specs.declared.dimensions.Dimensions.{Dimensions}
 use Rattle.stores.specs.declared.fault.Fault.{Fault}
 use Rattle.stores.specs.declared.state.SectorState.TheVariants.{Missing}
-use Rattle.stores.specs.Stores.{Store, refusal, dimensions, misfit, state, state_of, failure, outcome, filled}
+use Rattle.stores.specs.Stores.{Store, refusal, dimensions, misfit, state, state_of, failure, fault, outcome, filled}
 use Rattle.stores.specs.Layers.{Stack, after_write}
 use Rattle.stores.proofs.Options.{was_refused, was_accepted}
 
@@ -21,6 +23,10 @@ misfit_first true false v x y f e = e
 misfit_first false d v x y f e = e
 
 module _ (s : Store) (n : ℕ) where
+  pub refusal_length : (len : ℕ) → (len ≡ s.size → ⊥) → refusal s n len ≡ Some (fault BufferLength n s.layer)
+  unfolding refusal
+  refusal_length len h = cond-false (eqb len s.size) _ _ (ne_eqb len s.size h)
+
   pub refusal_in : (len : ℕ) → len ≡ s.size → n < s.count → refusal s n len ≡ failure (s.failed n)
   unfolding refusal
   refusal_in len e h = grind (arith, nat_tests)

@@ -1,11 +1,12 @@
 -- Hex digits, and the blocks that they write. Assumes nothing.
-use Rattle.std.proofs.Common.{◌≡◌, ℕ, zero, suc, ◌+◌, ◌*◌, ◌^◌, ◌<◌, ◌≤◌, List, [], ◌∷◌, map, length, get_or, take, drop, refl, ap, ◌∙◌, mul-le-mul, mul-le-mul_left, arith}
+use Rattle.std.proofs.Common.{◌≡◌, ℕ, zero, suc, ◌+◌, ◌*◌, ◌^◌, ◌<◌, ◌≤◌, List, [], ◌∷◌, map, length, get_or, take, drop, Some, refl, ap, ◌∙◌, mul-le-mul, mul-le-mul_left, arith}
 use native.Mathlib.Nat.{pow-le-pow_right}
 use Rattle.std.proofs.lemmas.Int.Digits.{number_lt, number_push}
-use Rattle.std.proofs.lemmas.List.{length-map, take_more, map_push, length-take-le}
+use Rattle.std.proofs.lemmas.List.{length-map, take_more, map_push, drop-drop, length-take-le}
 use Rattle.std.proofs.lemmas.Bool.Decides.{nat_tests}
 use Rattle.std.specs.Int.Digits.{number_from_digits, number_from_digits_after, AllBelowBase}
-use Rattle.text.specs.Hex.{digit, digit_value, digits_number, hex_blocks}
+use Rattle.std.specs.List.{slice_get}
+use Rattle.text.specs.Hex.{digit, digit_value, digits_number, hex_block, hex_blocks}
 
 pub digit_lt : (c : ℕ) → digit_value c < 16
 unfolding digit
@@ -47,3 +48,11 @@ number_room b t i x r s h l e f =
 pub blocks_length : (n : ℕ) (t : List ℕ) → length (hex_blocks n t) ≡ n
 blocks_length zero t = refl
 blocks_length (suc n) t = ap suc (blocks_length n (drop 32 t))
+
+-- one of the blocks, by its own digits
+pub blocks_at : (n i : ℕ) (t : List ℕ) → i < n → slice_get (hex_blocks n t) i ≡ Some (hex_block (take 32 (drop (32 * i) t)))
+blocks_at zero i t h = absurd (omega arith)
+blocks_at (suc n) zero t h = refl
+blocks_at (suc n) (suc i) t h =
+    let e : 32 + 32 * i ≡ 32 * suc i = omega arith in
+    blocks_at n i (drop 32 t) (omega arith) ∙ ap (λ (l : List ℕ). Some (hex_block (take 32 l))) (drop-drop (32 * i) 32 t ∙ ap (λ (k : ℕ). drop k t) e)

@@ -57,6 +57,7 @@ impl<'a> Elements<Block> for HexBlocks<'a> {
         self.digits.as_chunks::<32>().0.len()
     }
 
+    #[tactic(auto, using(crate::proofs::Digits::blocks_at))]
     fn get(&self, i: usize) -> Option<Block> {
         let (blocks, _) = self.digits.as_chunks::<32>();
         blocks.get(i).map(|digits| hex_block(digits))

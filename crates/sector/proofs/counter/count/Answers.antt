@@ -11,7 +11,7 @@ unfolding bytes
 loop-k-preserved g c =
     let F = g.F.BlockFunction.function c.args.f.now in
     let text = c.args.text.now in
-    let x = c.from_bytes.ensures ∙ ap (λ (l : List (List ℕ)). block (number_from_digits 256 (get_or l c.loop-k.k []))) c.as_chunks.ensures.front in
+    let x = c.from_bytes.ensures ∙ ap (λ (l : List (List ℕ)). block (number_from_digits 256 (get_or l c.loop-k.k []))) c.blocks_in-blocks.ensures.blocks in
     count_more F c.args.z c.loop-k.k (length text / 16) c.from_bytes.result c.add-in-loop-k.result text c.loop-k.output c.copy_from_slice.new.self (omega arith) (omega arith)
     x
     (c.add-in-loop-k.ensures ∙ ap (◌⊕◌ c.from_bytes.result) (c.call-mask.ensures ∙ ap F (c.add.ensures ∙ ap (◌⊕◌ c.args.z) c.new.ensures)))

@@ -5,7 +5,7 @@ use Rattle.stacks.specs.declared.call.Entry.{Entry}
 use Rattle.sheets.specs.Records.{said}
 use Rattle.sheet_turns.specs.declared.turns.Run.TheVariants.{Waiting}
 use Rattle.sheet_plans.specs.declared.plans.Note.{Note}
-use Rattle.sheet_plans.specs.Plans.{lines_by}
+use Rattle.sheet_plans.specs.Plans.{finished}
 use Rattle.sheet_runs.specs.Lines.{LinesAre}
 use Rattle.sheet_runs.specs.Puts.{Sane, PutBy}
 use Rattle.sheet_runs.proofs.Sanity.{sane_after}
@@ -23,7 +23,7 @@ returns c =
     let es' : List Entry = c.put_calls.new.calls in
     let put : PutBy plan.run es es' = subst (λ (xs : List Entry). PutBy plan.run xs es') c.deref_mut.ensures.value c.in_ok-put_calls.ensures in
     let all : c.deref-2.result.now ≡ es' = c.deref-2.ensures.value ∙ take_at es' (drop (length es') plan.calls.items) plan.calls.len (c.put_calls.auto.calls ∙ c.deref_mut.ensures.len) in
-    IfOk-weaker c.lines_of.result (λ v. vec_items v ≡ lines_by 0 c.deref.result.now c.deref-2.result.now) (λ v. LinesAre rs false (vec_items v))
+    IfOk-weaker c.lines_of.result (λ v. vec_items v ≡ map (λ (n : Note). finished n c.deref-2.result.now) c.deref.result.now) (λ v. LinesAre rs false (vec_items v))
     (λ v e. lines_are rs plan.run (vec_items plan.notes) es es' (vec_items v) c.in_ok-plan.ensures put
-    (e ∙ ap (λ (ns : List Note). lines_by 0 ns c.deref-2.result.now) c.deref.ensures.value ∙ ap (lines_by 0 (vec_items plan.notes)) all))
+    (e ∙ ap (map (λ (n : Note). finished n c.deref-2.result.now)) c.deref.ensures.value ∙ ap (λ (xs : List Entry). map (λ (n : Note). finished n xs) (vec_items plan.notes)) all))
     c.lines_of.ensures

@@ -16,9 +16,9 @@ returns-in-Read g c =
     let after = take b.len (ys ++ drop (length ys) b.items) in
     let full : after ≡ ys = take_at ys (drop (length ys) b.items) b.len (c.read.auto.buffer ∙ c.as_mut_slice.ensures.len) in
     record {
-      step = subst (λ (q : Call). Step p p (ask q) (ask_read n after) (Transfer c.read.result)) (sym c.in-Read.is)
-          (subst (λ (xs : List ℕ). Step p p (ask_read n xs) (ask_read n after) (Transfer c.read.result)) c.as_mut_slice.ensures.value
-          (ap Transfer c.read.ensures.answer, ap (ask_read n) (full ∙ c.read.ensures.filled), refl));
+      step = subst (λ (q : Call). Step p p (ask q) (ask_read n after) c.told.result) (sym c.in-Read.is)
+          (subst (λ (xs : List ℕ). Step p p (ask_read n xs) (ask_read n after) c.told.result) c.as_mut_slice.ensures.value
+          (c.told.ensures ∙ ap Transfer c.read.ensures.answer, ap (ask_read n) (full ∙ c.read.ensures.filled), refl));
       octets = subst (λ (q : Call). Octets (ask q)) (sym c.in-Read.is) tt;
     }
 

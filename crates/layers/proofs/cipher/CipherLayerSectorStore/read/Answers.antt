@@ -21,8 +21,8 @@ returns-in_err-admit g c =
     let e = turned_away (store p) n (length xs) _ c.dimensions.ensures _ c.in_err-admit.ensures in
     record { answer = handed_on _ _ _ e c.from_residual.ensures.1; filled = read_refused (store p) n xs _ _ e }
 
-pub returns-in_err-read : goal.returns-in_err-read
-returns-in_err-read g c =
+pub returns-in-Err : goal.returns-in-Err
+returns-in-Err g c =
     let w = c.args.self.now in
     let F = g.F.BlockFunction.function w.cipher.function in
     let h = g.H.BlockHash.hash w.cipher.hash in
@@ -32,11 +32,12 @@ returns-in_err-read g c =
     let xs = c.args.buffer.now in
     let fit = admitted (store p) n (length xs) _ c.dimensions.ensures _ c.in_ok-admit.ensures in
     let short : length xs ≤ 4096 = omega (arith, fit.0, (g.S.SectorStore.sound w.below).short) in
-    let e = cipher_refusal q F h n (length xs) _ fit.0 fit.1 (length-take-le (length xs) _ short) ∙ was_refused _ (refusal (store q) n _) c.in_err-read.ensures.answer in
-    record { answer = handed_on _ _ _ e c.from_residual-in_err-read.ensures.1; filled = read_refused (store p) n xs _ _ e }
+    let a = sym c.in-Err.is ∙ c.read.ensures.answer in
+    let e = cipher_refusal q F h n (length xs) _ fit.0 fit.1 (length-take-le (length xs) _ short) ∙ was_refused _ (refusal (store q) n _) a in
+    record { answer = ap outcome (sym e); filled = read_refused (store p) n xs _ _ e }
 
-pub returns : goal.returns
-returns g c =
+pub returns-in-Ok : goal.returns-in-Ok
+returns-in-Ok g c =
     let w = c.args.self.now in
     let F = g.F.BlockFunction.function w.cipher.function in
     let h = g.H.BlockHash.hash w.cipher.hash in
@@ -46,7 +47,7 @@ returns g c =
     let xs = c.args.buffer.now in
     let fit = admitted (store p) n (length xs) _ c.dimensions.ensures _ c.in_ok-admit.ensures in
     let short : length xs ≤ 4096 = omega (arith, fit.0, (g.S.SectorStore.sound w.below).short) in
-    let none = was_accepted _ (refusal (store q) n _) c.in_ok-read.ensures.answer in
+    let none = was_accepted _ (refusal (store q) n _) c.in-Ok.ensures.answer in
     let e = cipher_refusal q F h n (length xs) _ fit.0 fit.1 (length-take-le (length xs) _ short) ∙ none in
     let bytes = (store q).bytes n in
     let shown : c.read.new.buffer ≡ bytes = c.read.ensures.filled ∙ was_filled _ bytes _ none in
