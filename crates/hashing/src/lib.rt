@@ -54,7 +54,8 @@ impl BlockHash for BrwHash {
     // In a frame of its own: the powers are room that the caller would have, too, where it copies and calls.
     #[inline(never)]
     fn call(&self, key: Block, list: Blocks<'_>) -> Block {
-        let mut powers = [Block::zero(); 64];
+        // Room for powers, filled with the key: zeros would be filled in by a call, whose first lookup saves registers.
+        let mut powers = [key; 64];
         brw(key, &mut powers, &list).unwrap()
     }
 }
