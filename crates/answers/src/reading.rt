@@ -1,6 +1,6 @@
 ghost use Rattle.std.specs.Prelude.{◌≡◌, ℕ, List, [], ◌∷◌, ◌++◌, ◌≢◌};
 ghost use Rattle.std.specs.Option.{option_map};
-ghost use Rattle.answers.specs.Reading.{Known, understood, read, remark, three, six, with_all, answer_of, by_kind, sector_texts, sector_of, known};
+ghost use Rattle.answers.specs.Reading.{Known, understood, read, remark, three, six, with_all, of_product, answer_of, by_kind, sector_texts, sector_of, known};
 ghost use Rattle.answers.specs.Rendering.{Written};
 ghost use Rattle.answers.specs.Views.{three_of, six_of, of_cipher, of_polynomial, known_of, said};
 ghost use Rattle.text.specs.Hex.{block_word, list_word};
@@ -42,11 +42,26 @@ fn three_words(text: Option<&[u8]>) -> Option<Three<'_>>
 fn read_enciphered<'a>(cipher: Cipher, words: Three<'a>) -> Option<Answer<'a>>
     ensures { option_map known_of result ≡ with_all (of_cipher cipher) (block_word words.entry.first.now) (block_word words.entry.second.now) (block_word words.entry.third.now) }
 {
+    let key = read_block(words.first)?;
+    let enciphered = read_block(words.third)?;
     Some(Answer::Block {
         cipher,
-        key: read_block(words.first)?,
+        key,
         plain: read_block(words.second)?,
-        enciphered: read_block(words.third)?,
+        enciphered,
+    })
+}
+
+// The answer of a product with these fields.
+fn read_product<'a>(words: Three<'a>) -> Option<Answer<'a>>
+    ensures { option_map known_of result ≡ with_all of_product (block_word words.entry.first.now) (block_word words.entry.second.now) (block_word words.entry.third.now) }
+{
+    let a = read_block(words.first)?;
+    let result = read_block(words.third)?;
+    Some(Answer::Product {
+        a,
+        b: read_block(words.second)?,
+        result,
     })
 }
 
@@ -73,11 +88,7 @@ fn read_fields<'a>(kind: Kind, words: Three<'a>) -> Option<Answer<'a>>
     match kind {
         Kind::Aes => read_enciphered(Cipher::Aes, words),
         Kind::Speck => read_enciphered(Cipher::Speck, words),
-        Kind::Product => Some(Answer::Product {
-            a: read_block(words.first)?,
-            b: read_block(words.second)?,
-            result: read_block(words.third)?,
-        }),
+        Kind::Product => read_product(words),
         Kind::Horner => read_value(Polynomial::Horner, words),
         Kind::Brw => read_value(Polynomial::Brw, words),
         Kind::Sector => None,
