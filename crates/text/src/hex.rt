@@ -77,7 +77,12 @@ pub fn read_block(word: &[u8]) -> Option<Block>
     ensures { result ≡ block_word word.now }
 {
     let digits = word.as_array::<32>()?;
-    is_hex(digits).then_some(hex_block(digits))
+    // Not by `then_some`, which would work the block out before the test.
+    if is_hex(digits) {
+        Some(hex_block(digits))
+    } else {
+        None
+    }
 }
 
 // The list that a word writes: a dash for the empty one, or the digits of its blocks.
