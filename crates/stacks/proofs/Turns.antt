@@ -1,5 +1,5 @@
 -- From call to call of a run, and from its end to the law. Assumes nothing.
-use Rattle.std.proofs.Common.{◌≡◌, ℕ, suc, ◌+◌, ◌%◌, ◌<◌, ◌≤◌, cond, ltb, List, [], ◌∷◌, ◌++◌, length, take, set, Some, sym, refl, ap, ◌∙◌, subst, ⊎_elim, add-one, arith, length-set, take_all}
+use Rattle.std.proofs.Common.{◌≡◌, ℕ, suc, ◌+◌, ◌%◌, ◌<◌, ◌≤◌, cond, ltb, List, [], ◌∷◌, ◌++◌, length, take, set, Option, Some, sym, refl, ap, ◌∙◌, subst, ⊎_elim, add-one, arith, length-set, take_all}
 use Rattle.std.specs.List.{slice_get}
 use Rattle.std.proofs.lemmas.Bool.{cases_eq, cases_lt, cond-true, cond-false, lt-ltb, le-ltb}
 use Rattle.std.proofs.lemmas.List.{map-append}
@@ -137,19 +137,20 @@ module _ (ls : List Layer) (s u u' : Store) (long : 64 ≤ s.size) (even : s.siz
     moved = moved_more;
   }
 
--- the same from the step of a call on the whole stack, which stands on a lowest store
-pub turn_on : (us₀ us us' : List Layer) (b₀ b b' p p' : Stack) (es cur : List Entry) (i : ℕ) (e : Entry) (c' : Call) (a : Answer)
+-- the same from the step of a call on the whole stack, which stands on a lowest store, and with its answer as the entry holds it
+pub turn_on : (us₀ us us' : List Layer) (b₀ b b' p p' : Stack) (es cur : List Entry) (i : ℕ) (e : Entry) (c' : Call) (a : Answer) (held : Option Answer)
     → Sound b₀.lowest → Sound b.lowest → p ≡ laid us b → p' ≡ laid us' b' → length us' ≡ length us
-    → us ≡ us₀ → Turn us₀ (store b₀) (store b) es cur i → slice_get cur i ≡ Some e → Step p p' (ask e.call) (ask c') a → Octets (ask e.call)
-    → (us' ≡ us₀) × Turn us₀ (store b₀) (store b') es (set cur i (record { call = c'; answer = Some a })) (i + 1)
-turn_on us₀ us us' b₀ b b' p p' es cur i e c' a sound₀ sound stands stands' deep same t at_i st o =
+    → us ≡ us₀ → Turn us₀ (store b₀) (store b) es cur i → slice_get cur i ≡ Some e → Step p p' (ask e.call) (ask c') a → Octets (ask e.call) → held ≡ Some a
+    → (us' ≡ us₀) × Turn us₀ (store b₀) (store b') es (set cur i (record { call = c'; answer = held })) (i + 1)
+turn_on us₀ us us' b₀ b b' p p' es cur i e c' a held sound₀ sound stands stands' deep same t at_i st o is =
     let st₁ : Step (laid us b) p' (ask e.call) (ask c') a = subst (λ (z : Stack). Step z p' (ask e.call) (ask c') a) stands st in
     let st₂ : Step (laid us b) (laid us' b') (ask e.call) (ask c') a = subst (λ (z : Stack). Step (laid us b) z (ask e.call) (ask c') a) stands' st₁ in
     let low : Low us us' (store b) (store b') (ask e.call) (ask c') a = lowered us us' b b' deep (ask e.call) (ask c') a sound st₂ o in (
       low.layers ∙ same,
-      turn us₀ (store b₀) (store b) (store b') sound₀.long sound₀.even es cur i t e c' a at_i
+      subst (λ (z : Option Answer). Turn us₀ (store b₀) (store b') es (set cur i (record { call = c'; answer = z })) (i + 1)) (sym is)
+          (turn us₀ (store b₀) (store b) (store b') sound₀.long sound₀.even es cur i t e c' a at_i
           (subst (λ (z : List Layer). Heard (stacked z (store b)) (ask e.call) (ask c') a) same low.heard)
-          (subst (λ (z : List Layer). Moves z (stacked z (store b)) (ask e.call) (store b) (store b')) same low.moves) o,
+          (subst (λ (z : List Layer). Moves z (stacked z (store b)) (ask e.call) (store b) (store b')) same low.moves) o),
     )
 
 pub finish : (ls ls' : List Layer) (s u : Store) (es cur : List Entry) (i : ℕ) → ls' ≡ ls → Turn ls s u es cur i → i ≡ length es → Law ls ls' s u es cur

@@ -1,4 +1,4 @@
-ghost use Rattle.std.specs.Prelude.{◌≡◌};
+ghost use Rattle.std.specs.Prelude.{◌≡◌, Some};
 ghost use Rattle.std.specs.Int.Digits.{AllBelowBase};
 ghost use Rattle.stores.specs.Layers.{store};
 ghost use Rattle.stacks.specs.declared.call.Answer.TheVariants.{Transfer};
@@ -41,6 +41,13 @@ fn put<P: SectorStore>(stack: &mut P, call: &mut Call) -> Answer
     }
 }
 
+// What an entry holds of the answer to its call.
+fn noted(answer: Answer) -> Option<Answer>
+    ensures { result ≡ Some answer }
+{
+    Some(answer)
+}
+
 // Puts the calls of a list to a stack, one after the other, and hands the answers back.
 pub fn run<B: SectorStore, N, P: StackOn<B, N>>(stack: &mut P, list: &mut [Entry])
     ensures { Law (P.StackOn.above stack.old) (P.StackOn.above stack.new)
@@ -48,6 +55,6 @@ pub fn run<B: SectorStore, N, P: StackOn<B, N>>(stack: &mut P, list: &mut [Entry
         list.old list.new }
 {
     for e in list.iter_mut() {
-        e.answer = Some(put(stack, &mut e.call));
+        e.answer = noted(put(stack, &mut e.call));
     }
 }

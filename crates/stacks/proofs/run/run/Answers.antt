@@ -20,9 +20,9 @@ loop-e-preserved g c =
     let s' = c.put.new.stack in
     let i = c.loop-e.e-index in
     turn_on (above s₀) (above s) (above s') (view (lowest s₀)) (view (lowest s)) (view (lowest s')) _ _ c.args.list.now c.loop-e.list i
-    (get_or c.loop-e.list i c.e-item.result) c.put.new.call c.put.result
+    (get_or c.loop-e.list i c.e-item.result) c.put.new.call c.put.result c.noted-e.result
     (sound (lowest s₀)) (sound (lowest s)) (g.met.P.StackOn.stands s) (g.met.P.StackOn.stands s') (g.P.StackOn.deep s' s)
-    c.loop-e.invariant.0 c.loop-e.invariant.1 (slice_get-get_or c.loop-e.list i c.e-item.result (omega arith)) c.put.ensures.step c.put.ensures.octets
+    c.loop-e.invariant.0 c.loop-e.invariant.1 (slice_get-get_or c.loop-e.list i c.e-item.result (omega arith)) c.put.ensures.step c.put.ensures.octets c.noted-e.ensures
 
 pub returns : goal.returns
 returns g c =
