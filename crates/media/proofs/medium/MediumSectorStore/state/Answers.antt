@@ -12,11 +12,11 @@ returns-then-n-count g c =
 pub returns-then-is_some : goal.returns-then-is_some
 returns-then-is_some g c =
     let s = c.args.self.now in
-    is_ready c.args.n (g.L.Layout.lies s.layout c.args.n) _ c.place.ensures c.if-is_some.ensures
+    is_ready c.args.n (g.L.Layout.lies s.layout c.args.n) _ (search) c.if-is_some.ensures
     ∙ sym (state_in (laid_out (g.L.Layout.sectors s.layout) s.length (g.L.Layout.bytes s.layout s.bytes.now s.length) (g.L.Layout.lies s.layout)) c.args.n (omega (arith, c.count.ensures)))
 
 pub returns-else-is_some : goal.returns-else-is_some
 returns-else-is_some g c =
     let s = c.args.self.now in
-    is_failed c.args.n (g.L.Layout.lies s.layout c.args.n) _ c.place.ensures c.if-is_some.ensures
+    is_failed c.args.n (g.L.Layout.lies s.layout c.args.n) _ (search) c.if-is_some.ensures
     ∙ sym (state_in (laid_out (g.L.Layout.sectors s.layout) s.length (g.L.Layout.bytes s.layout s.bytes.now s.length) (g.L.Layout.lies s.layout)) c.args.n (omega (arith, c.count.ensures)))
