@@ -1,5 +1,6 @@
 -- The failed sectors of a spared medium. Assumes nothing.
-use Rattle.std.proofs.Common.{◌≡◌, ℕ, zero, suc, ◌+◌, ◌-◌, ◌<◌, true, not, ◌&&◌, eqb, ltb, List, [], ◌∷◌, length, get_or, drop, is_some, Some, None, Option, sym, refl, ap, ◌∙◌, ⊎_elim, arith, length-drop}
+use Rattle.std.proofs.Common.{◌≡◌, ℕ, zero, suc, ◌+◌, ◌-◌, ◌<◌, true, not, ◌&&◌, eqb, ltb, List, [], ◌∷◌, ◌++◌, length, get_or, drop, is_some, Some, None, Option, sym, refl, ap, ◌∙◌, ⊎_elim, arith, length-drop}
+use borrow.Rule.Slice.PartMut.{post_of}
 use Rattle.std.proofs.lemmas.List.{get_or-drop}
 use Rattle.std.proofs.lemmas.Bool.{and_parts, false≢true, cases_lt, cond-true, cond-false, eq-eqb, ne_eqb, lt-ltb, le-ltb}
 use Rattle.std.specs.List.{position_or_len}
@@ -17,6 +18,12 @@ pub position_at : (bad : List ℕ) (k i : ℕ) → i < length bad → get_or bad
 position_at bad k i h e before =
     let is : position_or_len (λ z. eqb z k) bad ≡ i = position_or_len_is (λ z. eqb z k) bad i 0 (omega arith) (λ j l. ne_eqb (get_or bad j 0) k (before j l)) (λ _. eq-eqb (get_or bad i 0) k e) in
     cond-true (ltb (position_or_len (λ z. eqb z k) bad) (length bad)) _ _ (lt-ltb _ _ (omega arith)) ∙ ap (λ z. Some z) is
+
+-- what is not listed has no position
+pub position_none : (bad : List ℕ) (k : ℕ) → ((j : ℕ) → j < length bad → get_or bad j 0 ≡ k → ⊥) → position bad k ≡ None
+position_none bad k never =
+    let is : position_or_len (λ z. eqb z k) bad ≡ length bad = position_or_len_is (λ z. eqb z k) bad (length bad) 0 (omega arith) (λ j l. ne_eqb (get_or bad j 0) k (never j l)) (λ l. absurd (omega arith)) in
+    cond-false (ltb (position_or_len (λ z. eqb z k) bad) (length bad)) _ _ (le-ltb _ _ (omega arith))
 
 none_is : (o : Option ℕ) → not (is_some o) ≡ true → o ≡ None
 none_is None e = refl
@@ -58,3 +65,10 @@ module _ (all : List ℕ) (n size spares : ℕ) (bad : List ℕ) (single : liste
     all = all_failed;
     apart = λ i j l h e. listed_apart n bad single (spares + i) (spares + j) (omega arith) (omega (arith, length-drop spares bad)) (sym (get_or-drop spares bad i 0) ∙ e ∙ get_or-drop spares bad j 0);
   }
+
+-- failed sectors written into the front of a buffer leave its rest as it was
+pub rest_kept : (last fs out : List ℕ) (k : ℕ) → last ≡ fs → k ≡ length fs → last ++ post_of 0 (k - 0) out ≡ fs ++ drop (length fs) out
+rest_kept last fs out k e f = ap (λ z. z ++ post_of 0 (k - 0) out) e ∙ ap (λ z. fs ++ drop z out) (h ∙ f)
+  where
+    h : k - 0 ≡ k
+    h = omega arith

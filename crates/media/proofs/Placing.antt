@@ -1,11 +1,11 @@
 -- What the calls of a medium come to, by where the sector lies. Assumes nothing.
 use Rattle.std.proofs.Common.{◌≡◌, ℕ, ◌+◌, ◌*◌, ◌<◌, ◌≤◌, true, false, cond, eqb, List, length, is_some, Some, None, Ok, Err, Option, sym, refl, subst, ⊎_elim, inl, inr, arith}
 use borrow.Rule.Slice.PartMut.{put_mid}
-use Rattle.std.proofs.lemmas.Bool.{cases_order}
+use Rattle.std.proofs.lemmas.Bool.{cases_order, cond_both}
 use Rattle.stores.specs.declared.fault.Fault.{Fault}
-use Rattle.stores.specs.Stores.{failure, put, state_of}
+use Rattle.stores.specs.Stores.{Store, failure, put, state_of}
 use Rattle.stores.specs.declared.state.SectorState.TheVariants.{Ready, Failed}
-use Rattle.media.specs.Media.{place}
+use Rattle.media.specs.Media.{place, flat_figures, flat_store, flat_medium}
 use Rattle.media.specs.Spared.{laid_out, lost, placed}
 use Rattle.media.specs.Places.{place_end, part_other}
 
@@ -41,3 +41,7 @@ pub laid_put : (n size : ℕ) (bytes bytes' : ℕ → List ℕ) (lies : ℕ → 
     → laid_out n size bytes' lies ≡ put (laid_out n size bytes lies) k xs
 unfolding put
 laid_put n size bytes bytes' lies k xs h = λ i. record { count = n; size = size; layer = 0; bytes = λ j. h j i; failed = λ j. lost j (lies j) }
+
+-- only a medium whose figures keep the rules has sectors
+pub flat_ok : (all : List ℕ) (n size k : ℕ) → k < (flat_medium all n size).count → flat_figures (length all) n size ≡ true
+flat_ok all n size k h = cond_both (flat_figures (length all) n size) (flat_store all n size) (flat_store all 0 64) (λ (s : Store). k < s.count → flat_figures (length all) n size ≡ true) (λ e l. e) (λ e l. absurd (omega arith)) h

@@ -43,8 +43,12 @@ module _ (n spares : ℕ) (bad : List ℕ) where
   pub apart : (k j : ℕ) → k < n → j < n → (k ≡ j → ⊥) → home n spares bad k ≡ home n spares bad j → ⊥
   apart k j hk hj ne = apart_by k j _ _ hk hj ne (known k) (known j)
 
+  -- failed or not, a sector lies in one of the places
+  pub inside : (k : ℕ) → k < n → home n spares bad k < n + spares
+  inside k h = inside_by k _ h (known k)
+
   pub place_within : (k p : ℕ) → k < n → lies (n + spares) k (spare_place n (position bad k)) ≡ Some p → p < n + spares
-  place_within k p h e = subst (λ o. own_or k o < n + spares) e (inside_by k _ h (known k))
+  place_within k p h e = subst (λ o. own_or k o < n + spares) e (inside k h)
 
 module _ (all : List ℕ) (n size spares : ℕ) (bad : List ℕ) where
   pub place_read : (k p : ℕ) → k < n → lies (n + spares) k (spare_place n (position bad k)) ≡ Some p → sector_bytes all n size spares bad k ≡ place all size p

@@ -1,8 +1,9 @@
 -- BRW over any operations: its rules, and those of a part of a list. Assumes nothing.
-use Rattle.std.proofs.Common.{◌≡◌, ℕ, zero, suc, ◌+◌, ◌-◌, ◌*◌, ◌^◌, ◌<◌, ◌≤◌, List, [], ◌∷◌, map, length, get_or, take, drop, sym, refl, ap, ◌∙◌, ap₂, arith, pow_pos}
+use Rattle.std.proofs.Common.{◌≡◌, ℕ, zero, suc, ◌+◌, ◌-◌, ◌*◌, ◌^◌, ◌<◌, ◌≤◌, ◌⊎◌, List, [], ◌∷◌, map, length, get_or, take, drop, set, sym, refl, ap, ◌∙◌, ap₂, inl, inr, arith, pow_pos}
 use Rattle.std.specs.List.{range_with_len}
 use Rattle.std.proofs.lemmas.List.FromFn.{fill_by_all, get_or-map-range_with_len}
-use Rattle.std.proofs.lemmas.List.{length-take-le, length-drop, take_rest, get_or_read}
+use Rattle.std.proofs.lemmas.List.{length-take-le, length-drop, take_rest, get_or_read, get_or_default, get_or-set_other, get_or-set_same}
+use Rattle.std.proofs.lemmas.Bool.{cases_lt}
 use Rattle.elements.specs.Operations.{Operations, Laws}
 use Rattle.polynomials.specs.Sums.{log2, power, squared, Squares, brw_to, brw, squared_brw, BrwRules}
 use Rattle.polynomials.proofs.Parts.{part_length, part_read, front_part, back_part}
@@ -24,6 +25,27 @@ module _ {E : Type 0} (o : Operations E) where
   unfolding Squares
   squares_none τ [] e = refl
   squares_none τ (p ∷ ps) e = absurd (omega arith)
+
+  pub squares_first : (ps : List E) (j : ℕ) → j < 1 → get_or ps j o.zero ≡ squared o (get_or ps 0 o.zero) j
+  squares_first ps zero hj = refl
+  squares_first ps (suc j) hj = absurd (omega arith)
+
+  -- one more square, at i
+  pub squares_next : (τ : E) (ps : List E) (i : ℕ) (y d₁ d₂ : E) → 1 ≤ i → i < length ps
+      → ((j : ℕ) → j < i → get_or ps j o.zero ≡ squared o τ j) → y ≡ get_or ps (i - 1) d₁ ⊗ get_or ps (i - 1) d₂
+      → (j : ℕ) → j < i + 1 → get_or (set ps i y) j o.zero ≡ squared o τ j
+  squares_next τ ps i y d₁ d₂ pos h inv e j hj = go (cases_lt j i)
+    where
+      at : (d : E) → get_or ps (i - 1) d ≡ squared o τ (i - 1)
+      at d = get_or_default ps (i - 1) d o.zero (omega arith) ∙ inv (i - 1) (omega arith)
+
+      go : (j < i) ⊎ (i ≤ j) → get_or (set ps i y) j o.zero ≡ squared o τ j
+      go (inl p) = get_or-set_other ps i j y o.zero (omega arith) ∙ inv j p
+      go (inr p) =
+          let same : i ≡ j = omega arith in
+          let back : suc (i - 1) ≡ j = omega arith in
+          ap (λ (n : ℕ). get_or (set ps i y) n o.zero) (sym same) ∙ get_or-set_same ps i y o.zero h
+          ∙ e ∙ ap₂ o.product (at d₁) (at d₂) ∙ ap (squared o τ) back
 
   pub squares_all : (τ : E) (ps : List E) (n : ℕ) → length ps ≤ n
       → ((j : ℕ) → j < n → get_or ps j o.zero ≡ squared o τ (suc j)) → Squares o τ (τ ∷ ps)

@@ -73,6 +73,9 @@ module _ {E : Type 0} {o : Operations E} (laws : Laws o) where
       ∙ sym (laws.sum_assoc ((y ⊗ p) ⊗ τ) (q ⊗ τ) x)
       ∙ ap (λ (e : E). e ⊕ x) (sym (right_distributes (y ⊗ p) q τ))
 
+  pub horner_alone : (τ x : E) → horner o τ (x ∷ []) ≡ x
+  horner_alone τ x = sum_right (x ⊗ o.one) ∙ product_right x
+
   -- one more coefficient, of those from a on
   pub horner_next : (τ f : E) (xs : List E) (a i : ℕ) (v x w : E) → a ≤ i → i < length xs → x ≡ get_or xs i x
       → v ≡ horner o τ (f ∷ take (i - a) (drop a xs)) → w ≡ (v ⊗ τ) ⊕ x

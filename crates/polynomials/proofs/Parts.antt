@@ -1,16 +1,25 @@
 -- Parts of a list by their places in it, and the list that a text of bytes is. Assumes nothing.
-use Rattle.std.proofs.Common.{◌≡◌, ℕ, zero, suc, ◌+◌, ◌-◌, ◌<◌, ◌≤◌, true, List, [], ◌∷◌, length, get_or, take, drop, is_some, Option, Some, None, sym, refl, ap, ◌∙◌, ap₂, arith}
+use Rattle.std.proofs.Common.{◌≡◌, ℕ, zero, suc, ◌+◌, ◌-◌, ◌*◌, ◌<◌, ◌≤◌, true, List, [], ◌∷◌, length, get_or, take, drop, is_some, Option, Some, None, sym, refl, ap, ◌∙◌, ap₂, arith}
 use Rattle.std.proofs.lemmas.List.{get_or-take, get_or-drop, take-take, drop-take, drop-drop, length-take-le, length-drop}
 use Rattle.std.specs.List.{slice_get}
 use Rattle.std.specs.Simd.{first_chunks}
 use Rattle.std.specs.Option.{option_map, MatchOption, IsSomeAnd}
 use Rattle.std.specs.Int.Digits.{number_from_digits}
 use Rattle.elements.specs.Values.{block}
+use Rattle.elements.specs.declared.values.Block.{Block}
 use Rattle.polynomials.specs.Blocks.{blocks}
 
 pub blocks_length : (n : ℕ) (t : List ℕ) → length (blocks n t) ≡ n
 blocks_length zero t = refl
 blocks_length (suc n) t = ap suc (blocks_length n (drop 16 t))
+
+-- block i, as the part of the bytes that it is
+pub blocks_at : (n i : ℕ) (t : List ℕ) (d : Block) → i < n → get_or (blocks n t) i d ≡ block (number_from_digits 256 (take 16 (drop (16 * i) t)))
+blocks_at zero i t d h = absurd (omega arith)
+blocks_at (suc n) zero t d h = refl
+blocks_at (suc n) (suc i) t d h =
+    let e : 16 + 16 * i ≡ 16 * suc i = omega arith in
+    blocks_at n i (drop 16 t) d (omega arith) ∙ ap (λ (l : List ℕ). block (number_from_digits 256 (take 16 l))) (drop-drop (16 * i) 16 t ∙ ap (λ (k : ℕ). drop k t) e)
 
 -- the blocks of a text, read off its pieces
 pub blocks_get : (n i : ℕ) (t : List ℕ) → option_map (λ bs. block (number_from_digits 256 bs)) (slice_get (first_chunks 16 n t) i) ≡ slice_get (blocks n t) i

@@ -28,7 +28,7 @@ pub block_bytes : (b : Block) → block (number_from_digits 256 (bytes b)) ≡ b
 unfolding bytes
 block_bytes b = ap block (number_big_endian 16 b.value ∙ mod-eq_of_lt b.fits) ∙ block_whole b
 
-bytes_block : (bs : List ℕ) → length bs ≡ 16 → AllBelowBase 256 bs → bytes (block (number_from_digits 256 bs)) ≡ bs
+pub bytes_block : (bs : List ℕ) → length bs ≡ 16 → AllBelowBase 256 bs → bytes (block (number_from_digits 256 bs)) ≡ bs
 unfolding bytes
 bytes_block bs n u =
     let h : number_from_digits 256 bs < 2 ^ 128 = subst (λ (k : ℕ). number_from_digits 256 bs < 256 ^ k) n (number_lt 256 bs u) in

@@ -3,7 +3,7 @@ use Rattle.std.proofs.Common.{◌≡◌, ℕ, zero, suc, ◌+◌, ◌-◌, ◌*�
 use borrow.Rule.Slice.PartMut.{put_mid}
 use Rattle.std.specs.Int.Digits.{number_from_digits}
 use Rattle.std.specs.Simd.{first_chunks}
-use Rattle.std.proofs.lemmas.List.{take-take, drop-take, drop-drop, take_at, append_assoc, append-nil, take_all, length-take-le, length-append}
+use Rattle.std.proofs.lemmas.List.{take-take, drop-take, drop-drop, take_at, drop_at, append_assoc, append-nil, take_all, drop_all, length-take-le, length-append, length-drop}
 use Rattle.elements.specs.Values.{block}
 use Rattle.elements.specs.declared.values.Block.{Block}
 use Rattle.polynomials.specs.Blocks.{blocks, blocks_of}
@@ -23,7 +23,7 @@ pub all_chunks : (n : ℕ) (t : List ℕ) → take n (first_chunks 16 n t) ≡ f
 all_chunks n t = take_all n (first_chunks 16 n t) (omega (arith, chunks_long n t))
 
 -- one of the pieces of 16 bytes, as the checker reads it
-chunk_at : (n k : ℕ) (t : List ℕ) → k < n → get_or (first_chunks 16 n t) k [] ≡ take 16 (drop (16 * k) t)
+pub chunk_at : (n k : ℕ) (t : List ℕ) → k < n → get_or (first_chunks 16 n t) k [] ≡ take 16 (drop (16 * k) t)
 chunk_at zero k t h = absurd (omega arith)
 chunk_at (suc n) zero t h = refl
 chunk_at (suc n) (suc k) t h =
@@ -74,7 +74,23 @@ count_all F z k n text out r h l e =
     let m : n - k ≡ 0 = omega arith in
     sym (rw (m, take_all (16 * k) out l, append-nil out)) ∙ e
 
-front_take : (t : List ℕ) → front_of (take 32 t) ≡ front_of t
+-- a slice of which the first n elements and then all others were written
+pub halves :
+    {X : Type 0} (front rest back : List X) (n : ℕ)
+    → length front ≡ n
+    → put_mid n (length (front ++ rest) - n) (front ++ rest) back ≡ front ++ back
+halves front rest back n e =
+    let h : length rest ≤ length (front ++ rest) - n = omega (arith, length-append front rest) in
+    rw (take_at front rest n e, drop_at front rest n e, drop_all (length (front ++ rest) - n) rest h, append-nil back)
+
+-- what lies from 32 on, once that part was written
+pub written : (out back : List ℕ) → 32 ≤ length out → length back ≡ length out - 32 → drop 32 (put_mid 32 (length out - 32) out back) ≡ back
+written out back h n =
+    let l : length (drop 32 out) ≤ length out - 32 = omega (arith, length-drop 32 out) in
+    ap (drop 32) (ap (λ (r : List ℕ). take 32 out ++ (back ++ r)) (drop_all (length out - 32) (drop 32 out) l) ∙ ap (λ (r : List ℕ). take 32 out ++ r) (append-nil back))
+    ∙ drop_at (take 32 out) back 32 (length-take-le 32 out h)
+
+pub front_take : (t : List ℕ) → front_of (take 32 t) ≡ front_of t
 front_take t =
     let e : take 16 (drop 16 (take 32 t)) ≡ take 16 (drop 16 t) = ap (take 16) (drop-take 16 16 t) ∙ take-take 16 16 (drop 16 t) (omega arith) in
     rw (take-take 16 32 t (omega arith), e)

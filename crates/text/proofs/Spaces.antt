@@ -1,7 +1,8 @@
 -- Words and the text that they make. Assumes nothing.
-use Rattle.std.proofs.Common.{◌≡◌, ℕ, ◌+◌, ◌≤◌, Bool, true, cond, not, ◌&&◌, eqb, List, [], ◌∷◌, ◌++◌, map, length, take, drop, Some, None, codes, refl, ap, ◌∙◌, ⊎_elim, arith}
+use Rattle.std.proofs.Common.{◌≡◌, ℕ, ◌+◌, ◌<◌, ◌≤◌, Bool, true, cond, not, ◌&&◌, eqb, List, [], ◌∷◌, ◌++◌, map, length, get_or, take, drop, Some, None, codes, sym, refl, ap, ◌∙◌, ⊎_elim, arith}
 use Rattle.std.specs.List.{position, position_or_len, onto_first}
-use Rattle.std.proofs.lemmas.Bool.{cases_Bool, cond_both, and_parts, not-true, eqb-false, ne_eqb}
+use Rattle.std.proofs.lemmas.List.{take_more, drop_more, append_assoc, append-nil}
+use Rattle.std.proofs.lemmas.Bool.{cases_Bool, cond_both, and_parts, not-true, eqb-false, eq-eqb, ne_eqb}
 use Rattle.text.specs.Writing.{small_digit, small, Unspaced, AllUnspaced}
 use Rattle.std.proofs.lemmas.Bool.Decides.{nat_tests}
 use Rattle.std.proofs.lemmas.List.Splits.{slice_split_first, join_with_byte-slice_split}
@@ -56,6 +57,32 @@ uncut (c ∷ t) h =
 
 pub words_uncut : (t : List ℕ) → position space t ≡ None → words t ≡ t ∷ []
 words_uncut t e = grind (arith, nat_tests, uncut t)
+
+-- ---- the first word from any place on
+
+-- a text put before the first word
+abbrev pub after : List ℕ → List (List ℕ) → List (List ℕ)
+after t [] = t ∷ []
+after t (w ∷ ws) = (t ++ w) ∷ ws
+
+after_before : (t : List ℕ) (c : ℕ) (ws : List (List ℕ)) → after t (onto_first c ws) ≡ after (t ++ (c ∷ [])) ws
+after_before t c [] = refl
+after_before t c (w ∷ ws) = ap (λ x. x ∷ ws) (sym (append_assoc t (c ∷ []) w))
+
+-- a byte that is no space goes to the first word
+pub words_more : (t : List ℕ) (i : ℕ) → i < length t → (get_or t i 0 ≡ 32 → ⊥) → after (take i t) (words (drop i t)) ≡ after (take (i + 1) t) (words (drop (i + 1) t))
+words_more t i h n =
+    ap (λ l. after (take i t) (words l)) (drop_more t i 0 h)
+    ∙ ap (λ b. after (take i t) (cond b ([] ∷ words (drop (i + 1) t)) (onto_first (get_or t i 0) (words (drop (i + 1) t))))) (ne_eqb (get_or t i 0) 32 n)
+    ∙ after_before (take i t) (get_or t i 0) (words (drop (i + 1) t))
+    ∙ ap (λ l. after l (words (drop (i + 1) t))) (sym (take_more t i 0 h))
+
+-- a space ends it, the first or a later one
+pub words_cut_at : (t : List ℕ) (i : ℕ) → i < length t → get_or t i 0 ≡ 32 → after (take i t) (words (drop i t)) ≡ take i t ∷ words (drop (i + 1) t)
+words_cut_at t i h e =
+    ap (λ l. after (take i t) (words l)) (drop_more t i 0 h)
+    ∙ ap (λ b. after (take i t) (cond b ([] ∷ words (drop (i + 1) t)) (onto_first (get_or t i 0) (words (drop (i + 1) t))))) (eq-eqb (get_or t i 0) 32 e)
+    ∙ ap (λ x. x ∷ words (drop (i + 1) t)) (append-nil (take i t))
 
 -- ---- no space in a word
 
